@@ -1,15 +1,18 @@
-//! Calls that no run of the program makes, on samples whose answers are known: of links, blossoms, trees, a board, workers, and
-//! files and sinks in memory. It prints what differs, and how many samples passed.
+//! Calls that no run of the program makes, on samples whose answers are known: of links, blossoms, trees, parts, a board,
+//! workers, windows, and files and sinks in memory. It prints what differs, and how many samples passed.
 
 #![tactic(auto)]
 
 mod board;
 mod branches;
+mod lines;
 mod nests;
+mod parts;
 mod sinks;
 mod streams;
 mod stopped;
 mod walks;
+mod windows;
 mod workers;
 
 use std::io;
@@ -30,6 +33,12 @@ fn main(rt: HostRuntime) -> io::Result<()> {
         ("workers under a lock meet nobody", workers::meet_nobody_under_a_lock(&rt, alloc)),
         ("without memory no fusion is asked for", workers::ask_for_no_fusion(&rt, alloc)),
         ("the calling thread does each item once", workers::work_on_the_calling_thread(alloc)),
+        ("fused parts keep their layers", parts::keep_their_layers(alloc)),
+        ("parts give the root their cuts", parts::give_the_root_their_cuts(&rt, alloc)),
+        ("posted parts have all defects matched", parts::have_all_defects_matched(&rt, alloc)),
+        ("windows have places among all shots", windows::have_places_among_all_shots(&rt, alloc)),
+        ("windows on the calling thread", windows::are_made_on_the_calling_thread(alloc)),
+        ("tools count what is done", windows::count_what_is_done(&rt, alloc)),
     ];
     let (mut passed, mut failed) = (0, 0);
     for (name, answer) in answers {

@@ -7,7 +7,7 @@ use Rattle.fb_graph.specs.Limits.{DecodingGraph, IsShot, ShotValue, no_shot, pro
 use Rattle.fb_graph.specs.declared.parts.Row.{Row}
 use Rattle.fb_plan.specs.Plans.{IsPlan, IsTree, JobValue, PlanTree, children_of, node_count, root_of}
 use Rattle.fb_plan.proofs.SubProblems.{fusion_of}
-use Rattle.fb_book.specs.Books.{AreRootPieces, IsPieceAt, place_of}
+use Rattle.fb_book.specs.Books.{IsPieceAt, place_of}
 use Rattle.fb_half.specs.Parts.{IsPartOf, PartValue}
 use Rattle.fb_book.specs.Board.{kids_in}
 use Rattle.fb_book.specs.Machine.{IsComplete}
@@ -15,12 +15,11 @@ use Rattle.fb_book.specs.declared.entries.Entry.{Entry}
 use Rattle.fb_book.specs.declared.limits.TheConstants.{MOST_AT_ONCE}
 use Rattle.fb_crew.specs.Crews.{IsCompleteOf}
 use Rattle.fb_crew.proofs.EvenPlaces.{as_many_places, slots_within, sorting_laws}
-use Rattle.fb_crew.specs.InternalWindows.{AreOddAt, AreRowsOf, IsSorted, even_of, rows_by, with_places}
+use Rattle.fb_crew.specs.InternalWindows.{AreOddAt, AreRowsOf, AreSolvedRoots, IsSorted, even_of, rows_by, with_places}
 use Rattle.fb_book.proofs.Handing.{one_item}
 use Rattle.std.proofs.lemmas.Option.{slice_get-get_or}
 use Rattle.std.proofs.lemmas.List.Sums.{sum_by-cons}
 use Rattle.fb_crew.specs.InternalSolved.{SolvedValue, item_at, item_of}
-use Rattle.fb_crew.proofs.Deferred.{item_is}
 use Rattle.fb_crew.specs.Windows.{AreRows, IsHistoryOf, IsShotRow}
 
 module _ (g : DecodingGraph) where
@@ -48,10 +47,6 @@ module _ (g : DecodingGraph) where
   even_few (None ∷ vs) (s ∷ ss) = omega (arith, even_few vs ss)
 
 module _ (job : JobValue) where
-  -- the solved items of the roots of all slots
-  abbrev pub AreSolvedRoots : List SolvedValue → Type 0
-  AreSolvedRoots roots = AreRootPieces (λ (p : SolvedValue). p.job) (λ p. p.slot) (λ p. p.node) (λ p. None) job roots
-
   root_is : (s : ℕ) (p : SolvedValue) → 0 < node_count job.plan
       → IsPieceAt (λ (q : SolvedValue). q.job) (λ q. q.slot) (λ q. q.node) (λ q. None) job (place_of job s (root_of job.plan)) p
       → (p.job ≡ job) × (p.slot ≡ s) × (p.node ≡ root_of job.plan)
@@ -59,7 +54,7 @@ module _ (job : JobValue) where
       let both = one_item (node_count job.plan) s (root_of job.plan) p.slot p.node (omega (arith, some)) at.node at.place_is in
       (at.job_is, both.0, both.1)
 
-  pub at_roots : (roots : List SolvedValue) → 0 < node_count job.plan → AreSolvedRoots roots → All (λ p. p.node ≡ root_of p.job.plan) roots
+  pub at_roots : (roots : List SolvedValue) → 0 < node_count job.plan → AreSolvedRoots job roots → All (λ p. p.node ≡ root_of p.job.plan) roots
   at_roots roots some parts = λ k d less. at (get_or roots k d)
       (root_is k (get_or roots k d) some (parts.each k (get_or roots k d) (slice_get-get_or roots k d less)))
     where
@@ -91,7 +86,7 @@ module _ (job : JobValue) where
           (subst (λ shot. IsShotRow p.job.graph shot r)
           (ap (λ n. get_or p.job.shots n no_shot) is.1 ∙ ap (λ (j : JobValue). get_or j.shots (k + 0) no_shot) is.0 ∙ at) rows.0)
 
-  pub rows_of_roots : (roots : List SolvedValue) (rows : List Row) → 0 < node_count job.plan → AreSolvedRoots roots → AreRowsOf roots rows
+  pub rows_of_roots : (roots : List SolvedValue) (rows : List Row) → 0 < node_count job.plan → AreSolvedRoots job roots → AreRowsOf roots rows
       → AreRows job.graph job.shots rows
   rows_of_roots roots rows some parts answers =
       rows_from 0 roots job.shots rows parts.count
@@ -118,6 +113,11 @@ ok_more P Q (Ok a) known more = more a known
 ok_more P Q (Err e) known more = tt
 
 -- the item of a part is that of its slot and node
+item_is : (j : JobValue) (s n : ℕ) (p : PartValue) → IsPartOf j s n p → item_of p ≡ item_at j s n
+item_is j s n p is =
+    ap (λ x. item_at x p.slot p.node) is.job ∙ (ap (λ x. item_at j x p.node) is.slot ∙ ap (λ x. item_at j s x) is.node)
+
+-- so that is what its solved item is
 pub item_of_part : {E : Type 0} (j : JobValue) (s n : ℕ) (p : PartValue) (r : Result SolvedValue E) → IsPartOf j s n p → IfOk r (λ q. q ≡ item_of p)
     → IfOk r (λ q. q ≡ item_at j s n)
 item_of_part j s n p r is known = ok_more (λ q. q ≡ item_of p) (λ q. q ≡ item_at j s n) r known (λ q e. e ∙ item_is j s n p is)

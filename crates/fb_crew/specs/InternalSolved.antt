@@ -1,13 +1,11 @@
 -- What is kept of a solved item.
 use Rattle.std.specs.Prelude.{ℕ, ◌≡◌, ◌≢◌, get_or}
 use Rattle.fb_graph.specs.Limits.{ShotValue, no_shot}
-use Rattle.fb_half.specs.Beginnings.{LiesWithin}
 use Rattle.fb_half.specs.Parts.{IsPartOf, PartValue}
-use Rattle.fb_plan.specs.Plans.{JobValue, problem_at, root_of}
+use Rattle.fb_plan.specs.Plans.{JobValue, root_of}
 use Rattle.fb_crew.specs.declared.solver.Found.{Found}
-use Rattle.fb_crew.specs.declared.solver.Found.TheVariants.{Deferred, Part, Row}
+use Rattle.fb_crew.specs.declared.solver.Found.TheVariants.{Part, Row}
 use Rattle.fb_crew.specs.Windows.{IsShotRow}
-use Rattle.fb_plan.specs.declared.reach.Reach.{Reach}
 
 -- a solved item of a job, by its slot and node
 pub record SolvedValue : Type 0 where
@@ -27,12 +25,7 @@ item_at j s n = record { job = j; slot = s; node = n }
 abbrev pub item_of : PartValue → SolvedValue
 item_of part = item_at part.job part.slot part.node
 
--- all real vertices of the sub-problem of this node lie within the reach
-abbrev pub Covers : JobValue → ℕ → Reach → Type 0
-Covers j n reach = LiesWithin (problem_at j.graph j.plan n no_shot) reach
-
--- below the root the part of the item, or within which reach its vertices lie; at the root the row of its shot
+-- below the root the part of the item; at the root the row of its shot
 abbrev pub IsFoundAt : SolvedValue → Found → Type 0
-IsFoundAt s (Deferred reach) = Covers s.job s.node reach × (s.node ≢ root_of s.job.plan)
 IsFoundAt s (Part half) = IsPartOf s.job s.slot s.node half.value × (s.node ≢ root_of s.job.plan)
 IsFoundAt s (Row row) = IsShotRow s.job.graph (shot_at s) row.value × (s.node ≡ root_of s.job.plan)

@@ -5,8 +5,9 @@ use Rattle.fb_graph.specs.Components.{IsFirstOdd}
 use Rattle.fb_graph.specs.Limits.{DecodingGraph, ShotValue, problem_of}
 use Rattle.fb_graph.specs.declared.parts.Row.{Row}
 use Rattle.fb_graph.specs.declared.parts.Row.TheVariants.{Odd}
-use Rattle.fb_plan.specs.Plans.{PlanTree, IsPlan, IsTree, node_count}
+use Rattle.fb_plan.specs.Plans.{JobValue, PlanTree, IsPlan, IsTree, node_count}
 use Rattle.fb_book.specs.Board.{kids_in}
+use Rattle.fb_book.specs.Books.{AreRootPieces}
 use Rattle.fb_book.specs.Machine.{IsComplete}
 use Rattle.fb_book.specs.Laws.{renumbered_entry}
 use Rattle.fb_book.specs.declared.entries.Entry.{Entry}
@@ -60,6 +61,10 @@ SortingLaws = (g : DecodingGraph) (t : PlanTree) (workers : ℕ) (shots : List S
     (places : List ℕ) (solved : List Row) (history : List Entry) → IsTree t → IsSorted g shots odd even places → AreRows g even solved
     → IsComplete (kids_in t.units t.joins) (node_count t) (length even * node_count t) history → All (λ e. e.worker ≤ workers) history
     → AreRows g shots (rows_by odd solved) × IsHistoryOf t workers (rows_by odd solved) (with_places places history)
+
+-- the solved items of the roots of all slots
+abbrev pub AreSolvedRoots : JobValue → List SolvedValue → Type 0
+AreSolvedRoots job roots = AreRootPieces (λ (p : SolvedValue). p.job) (λ p. p.slot) (λ p. p.node) (λ p. None) job roots
 
 -- the rows of the shots of these solved items
 abbrev pub AreRowsOf : List SolvedValue → List Row → Type 0

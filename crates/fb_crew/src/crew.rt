@@ -3,7 +3,7 @@
 ghost use Rattle.std.specs.Prelude.{◌≡◌, ◌+◌, ◌^◌, ◌<◌, ◌≤◌, length, vec_capacity, All, IfOk, OnOk, []};
 ghost use Rattle.fb_book.specs.Board.{is_finished};
 ghost use Rattle.fb_book.specs.Books.{AreRootPieces, course_of};
-ghost use Rattle.fb_crew.specs.Crews.{IsCompleteOf};
+ghost use Rattle.fb_crew.specs.Crews.{AreNumbered, IsCompleteOf};
 ghost use denote.Param.Send.{IsSync};
 
 use crate::desk::Desk;
@@ -22,16 +22,37 @@ use std::sync::{Wait, ledger};
 use std::thread;
 use std::thread::Threads;
 
-/// A job that a crew has finished: the pieces of all slots' roots in the order of the slots, the history of the run, and
-/// the workers' tools in the order in which they were given.
+/// A job that a crew has finished: the pieces of all slots' roots in the order of the slots, the history of the run, how
+/// many events the workers have made by their own counts, and their tools in the order in which they were given.
 #[derive(Drop)]
 pub struct Worked<P: Piece, T: Drop> {
     pub roots: Vec<P>,
     pub history: Vec<Entry>,
+    pub made: u64,
     pub tools: Vec<T>,
 }
 
-/// Takes the last `count` tools, and gives each a seat with a part of the ledger.
+impl<P: Piece> Finished<P> {
+    /// The finished job with its workers' tools.
+    fn with_tools<T: Drop>(self, tools: Vec<T>) -> Worked<P, T>
+        ensures { (result.roots ≡ self.roots) × (result.history ≡ self.history) × (result.made ≡ self.made)
+            × (result.tools ≡ tools.entry) }
+    {
+        let Finished {
+            roots,
+            history,
+            made,
+        } = self;
+        Worked {
+            roots,
+            history,
+            made,
+            tools,
+        }
+    }
+}
+
+/// Takes the last `count` tools, and gives each a seat with a part of the ledger: the seats of the workers 0, 1 and so on.
 fn take_seats<T: Drop, N: Board>(
     alloc: Global,
     tools: &mut Vec<T>,
@@ -43,6 +64,7 @@ fn take_seats<T: Drop, N: Board>(
     requires parts { count < all.old.parts }
     requires none { all.old.amount ≡ 0 }
     ensures count { IfOk result (λ seats. length seats.items ≡ count) }
+    ensures numbers { IfOk result (λ seats. AreNumbered (λ s. s.worker) seats.items) }
     ensures tools { OnOk result (length tools.new.items + count ≡ length tools.old.items) }
     ensures room { vec_capacity tools.new ≡ vec_capacity tools.old }
     ensures parts { OnOk result (all.new.parts + count ≡ all.old.parts) }
@@ -83,22 +105,29 @@ fn leave_seats<T: Drop, N: Board>(
     made
 }
 
-/// Does the items that are left once the workers have ended, as one more worker. Returns whether every item is done.
+/// The book of a run, and how many events its workers have made by their own counts: as many as it has entries.
+#[derive(Drop)]
+struct Counted<P: Piece, N: Board> {
+    book: Book<P, N>,
+    made: u64,
+    ghost counted: { length book.0 ≡ made },
+}
+
+/// Does the items that are left once the workers have ended, as one more worker. Returns how many events it has made.
 fn do_rest<P: Piece, T, H: Hands<P, T>, G: Gate, N: Board>(
     bench: &Bench<'_, H, G>,
     book: &mut Book<P, N>,
     worker: u32,
     tools: &mut T,
-) -> Result<bool, NoMemory>
+) -> Result<u64, NoMemory>
     requires hands { H.job bench.now.hands.now ≡ N.job }
     requires worker { worker ≤ N.workers }
-    ensures { IfOk result (λ done. done ≡ is_finished (course_of N.job book.new.0)) }
+    ensures { IfOk result (λ made. length book.new.0 ≡ length book.old.0 + made) }
 {
     if book.is_starved() {
         return Err(NoMemory);
     }
-    drain(bench, book, worker, tools)?;
-    Ok(book.is_done())
+    drain(bench, book, worker, tools)
 }
 
 /// Does what is left of a job once its workers have ended, as one more worker. If items stay open all the same, does the
@@ -107,7 +136,7 @@ fn complete<P: Piece, T, H: Hands<P, T>, G: Gate, N: Board>(
     bench: &Bench<'_, H, G>,
     job: &Job<'_>,
     workers: u32,
-    mut book: Book<P, N>,
+    counted: Counted<P, N>,
     tools: &mut T,
 ) -> Result<Finished<P>, NoMemory>
     requires hands { H.job bench.now.hands.now ≡ N.job }
@@ -116,22 +145,16 @@ fn complete<P: Piece, T, H: Hands<P, T>, G: Gate, N: Board>(
     ensures roots { IfOk result (λ w. AreRootPieces P.job_of P.slot_of P.node_of P.made_of N.job w.roots.items) }
     ensures history { IfOk result (λ w. IsCompleteOf N.job w.history.items) }
     ensures workers { IfOk result (λ w. All (λ e. e.worker ≤ N.workers) w.history.items) }
+    ensures made { IfOk result (λ w. w.made ≡ length w.history.items) }
 {
-    let (done, book) = both(do_rest(bench, &mut book, workers, tools), book)?;
-    if done {
-        return Ok(finish(book));
+    let Counted { mut book, made } = counted;
+    let (rest, book) = both(do_rest(bench, &mut book, workers, tools), book)?;
+    book.keeps();
+    if book.is_done() {
+        return Ok(finish(book, made + rest));
     }
     drop(book);
     run_here::<P, T, H, G, N>(bench, job, workers, tools)
-}
-
-/// What a crew leaves once its workers have ended: the book, the workers' tools, and how many events they have made.
-#[derive(Drop)]
-struct Joined<P: Piece, T: Drop, N: Board> {
-    book: Book<P, N>,
-    tools: Vec<T>,
-    made: u64,
-    ghost counted: { length book.0 ≡ made },
 }
 
 /// Lets each seat's worker do items until it ends, and gives all seats back. The first seat's worker is on
@@ -148,6 +171,8 @@ fn work_each<
     R: Threads + Wait + Sync,
 >(rt: &R, desk: &Desk<P, N>, bench: &Bench<'_, H, G>, mut seats: Vec<Seat<T, N>>) -> Vec<Seat<T, N>>
     requires hands { H.job bench.now.hands.now ≡ N.job }
+    requires numbers { AreNumbered (λ s. s.worker) seats.items }
+    ensures numbers { AreNumbered (λ s. s.worker) result.items }
     ensures count { length result.items ≡ length seats.items }
     ensures room { vec_capacity result ≡ vec_capacity seats }
 {
@@ -160,17 +185,20 @@ fn work_each<
     }
     let last = move || -> Seat<T, N>
         requires { H.job bench.now.hands.now ≡ N.job }
+        ensures { result.worker ≡ seat.worker }
     { desk.work(rt, bench, seat) };
     let others = move || -> Vec<Seat<T, N>>
-        requires { IsSync R.row × (H.job bench.now.hands.now ≡ N.job) }
-        ensures { (length result.items ≡ length seats.items) × (vec_capacity result ≡ vec_capacity seats) }
+        requires { IsSync R.row × (H.job bench.now.hands.now ≡ N.job) × AreNumbered (λ s. s.worker) seats.items }
+        ensures { (length result.items ≡ length seats.items) × (vec_capacity result ≡ vec_capacity seats)
+            × AreNumbered (λ s. s.worker) result.items }
     { work_each(rt, desk, bench, seats) };
     let (seat, mut seats) = thread::join(rt, last, others);
     seats.push_reserved(seat);
     seats
 }
 
-/// Lets a worker for each of the tools do the items of the book, but no more workers than there are items.
+/// Lets a worker for each of the tools do the items of the book, but no more workers than there are items. Returns the book
+/// and the tools.
 fn join_workers<
     P: Piece + Send,
     T: Send + Drop,
@@ -184,7 +212,7 @@ fn join_workers<
     book: Book<P, N>,
     blank: Blank,
     mut tools: Vec<T>,
-) -> Result<Joined<P, T, N>, NoMemory>
+) -> Result<(Counted<P, N>, Vec<T>), NoMemory>
     requires hands { H.job bench.now.hands.now ≡ N.job }
     requires new { book.0 ≡ [] }
     requires name { blank.name ≡ N.name }
@@ -192,7 +220,7 @@ fn join_workers<
     requires one_each { blank.parts ≡ N.workers + 1 }
     requires tools { length tools.items ≡ N.workers }
     requires some { (1 ≤ N.workers) × (N.workers ≤ MOST_WORKERS) }
-    ensures { IfOk result (λ j. length j.tools.items ≡ N.workers) }
+    ensures { IfOk result (λ joined. length joined.1.items ≡ N.workers) }
 {
     let (events, mut all) = blank.open::<N>();
     let count = book.item_count().clamp(1, tools.len());
@@ -203,7 +231,7 @@ fn join_workers<
     let Locked { book, mut events } = desk.into_locked();
     book.keeps();
     let made = leave_seats(seats, &mut tools, &mut events, &mut all);
-    Ok(Joined { book, tools, made })
+    Ok((Counted { book, made }, tools))
 }
 
 /// Does all items by several workers, in a run that N names.
@@ -231,27 +259,17 @@ fn run_all<
     ensures roots { IfOk result (λ w. AreRootPieces P.job_of P.slot_of P.node_of P.made_of N.job w.roots.items) }
     ensures history { IfOk result (λ w. IsCompleteOf N.job w.history.items) }
     ensures workers { IfOk result (λ w. All (λ e. e.worker ≤ N.workers) w.history.items) }
+    ensures made { IfOk result (λ w. w.made ≡ length w.history.items) }
     ensures tools { IfOk result (λ w. length w.tools.items ≡ N.workers) }
 {
     let workers = tools.len() as u32;
     let (book, tools) = both(Book::<P, N>::new(bench.alloc, job, workers), tools)?;
-    let Joined {
-        book,
-        mut tools,
-        ..
-    } = join_workers(rt, bench, book, blank, tools)?;
+    let (counted, mut tools) = join_workers(rt, bench, book, blank, tools)?;
     let Some(spare) = tools.last_mut() else {
         unreachable!()
     };
-    let (Finished { roots, history }, tools) = both(
-        complete(bench, job, workers, book, spare),
-        tools,
-    )?;
-    Ok(Worked {
-        roots,
-        history,
-        tools,
-    })
+    let (finished, tools) = both(complete(bench, job, workers, counted, spare), tools)?;
+    Ok(finished.with_tools(tools))
 }
 
 /// Does all items of the job by this number of workers, each on a thread of its own but one, which is on the calling
@@ -270,6 +288,7 @@ pub fn work_all<P: Piece + Send, T: Send + Drop, H: Hands<P, T>, G: Gate, R: Thr
     ensures roots { IfOk result (λ w. AreRootPieces P.job_of P.slot_of P.node_of P.made_of job.now w.roots.items) }
     ensures history { IfOk result (λ w. IsCompleteOf job.now w.history.items) }
     ensures workers { IfOk result (λ w. All (λ e. e.worker ≤ workers) w.history.items) }
+    ensures made { IfOk result (λ w. w.made ≡ length w.history.items) }
     ensures tools { IfOk result (λ w. length w.tools.items ≡ workers) }
 {
     let bench = Bench { alloc, hands, gate };
@@ -278,10 +297,6 @@ pub fn work_all<P: Piece + Send, T: Send + Drop, H: Hands<P, T>, G: Gate, R: Thr
         return run_all::<P, T, H, G, Brand, R>(rt, &bench, job, blank, tools);
     }
     let finished = run_here::<P, T, H, G, Brand>(&bench, job, workers, &mut tools[0]);
-    let (Finished { roots, history }, tools) = both(finished, tools)?;
-    Ok(Worked {
-        roots,
-        history,
-        tools,
-    })
+    let (finished, tools) = both(finished, tools)?;
+    Ok(finished.with_tools(tools))
 }

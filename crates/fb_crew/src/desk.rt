@@ -34,6 +34,7 @@ impl<P: Piece, N: Board> Desk<P, N> {
 
     /// The next item for the seat's worker. Waits while none can be taken yet.
     fn claim<T: Drop, R: Wait>(&self, rt: &R, seat: &mut Seat<T, N>) -> Claim<P, N>
+        ensures worker { seat.new.worker ≡ seat.old.worker }
         ensures units { (permit : _) → result ≡ Claim.Unit permit → permit.node < N.job.plan.units }
         ensures pieces { (permit : _) (a b : P) → result ≡ Claim.Fusion permit a b
             → AreOfChildren P.job_of P.slot_of P.node_of P.made_of N.job permit.slot permit.node a b }
@@ -58,6 +59,7 @@ impl<P: Piece, N: Board> Desk<P, N> {
     ) -> bool
         requires { IsPieceAt P.job_of P.slot_of P.node_of P.made_of N.job
             (place_of N.job permit.slot permit.node) piece }
+        ensures { seat.new.worker ≡ seat.old.worker }
     {
         let posted = self.locked.lock(rt).post(seat, permit, piece);
         self.changed.notify_all();
@@ -65,7 +67,9 @@ impl<P: Piece, N: Board> Desk<P, N> {
     }
 
     /// Leaves the permit's item for want of memory.
-    fn starve<T: Drop, R: Wait>(&self, rt: &R, seat: &mut Seat<T, N>, permit: Permit<N>) {
+    fn starve<T: Drop, R: Wait>(&self, rt: &R, seat: &mut Seat<T, N>, permit: Permit<N>)
+        ensures { seat.new.worker ≡ seat.old.worker }
+    {
         self.locked.lock(rt).starve(seat, permit);
         self.changed.notify_all();
     }
@@ -79,6 +83,7 @@ impl<P: Piece, N: Board> Desk<P, N> {
         seat: &mut Seat<T, N>,
     ) -> bool
         requires { H.job bench.now.hands.now ≡ N.job }
+        ensures { seat.new.worker ≡ seat.old.worker }
     {
         match self.claim(rt, seat) {
             Claim::Unit(permit) => {
@@ -108,6 +113,7 @@ impl<P: Piece, N: Board> Desk<P, N> {
         mut seat: Seat<T, N>,
     ) -> Seat<T, N>
         requires { H.job bench.now.hands.now ≡ N.job }
+        ensures { result.worker ≡ seat.worker }
     {
         for _ in rt.forever() {
             if !self.turn(rt, bench, &mut seat) {

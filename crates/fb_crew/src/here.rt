@@ -10,15 +10,18 @@ ghost use Rattle.fb_crew.specs.InternalQuiet.{IsQuiet};
 use crate::hands::{Bench, Gate, Hands, OpenGate};
 use fb_book::{Board, Book, Claim, Entry, Permit, Piece, complete_history};
 use fb_graph::NoMemory;
+use fb_half::both::both;
 use fb_plan::Job;
 use std::alloc::Global;
 use std::marker::Brand;
 
-/// A finished job: the pieces of all slots' roots in the order of the slots, and the history of the run.
+/// A finished job: the pieces of all slots' roots in the order of the slots, the history of the run, and how many events
+/// its workers have made by their own counts.
 #[derive(Drop)]
 pub struct Finished<P: Piece> {
     pub roots: Vec<P>,
     pub history: Vec<Entry>,
+    pub made: u64,
 }
 
 /// Whether a turn did an item, or found none that can be taken.
@@ -76,36 +79,45 @@ pub(crate) fn next_item<P: Piece, T, H: Hands<P, T>, G: Gate, N: Board>(
     }
 }
 
-/// Does items as this worker until none can be taken.
+/// Does items as this worker until none can be taken. Returns how many events it has made.
 pub(crate) fn drain<P: Piece, T, H: Hands<P, T>, G: Gate, N: Board>(
     bench: &Bench<'_, H, G>,
     book: &mut Book<P, N>,
     worker: u32,
     tools: &mut T,
-) -> Result<(), NoMemory>
+) -> Result<u64, NoMemory>
     requires job { H.job bench.now.hands.now ≡ N.job }
     requires worker { worker ≤ N.workers }
-    ensures { OnOk result (IsQuiet (course_of N.job book.old.0) → is_finished (course_of N.job book.new.0) ≡ true) }
+    ensures finished { OnOk result (IsQuiet (course_of N.job book.old.0) → is_finished (course_of N.job book.new.0) ≡ true) }
+    ensures made { IfOk result (λ made. length book.new.0 ≡ length book.old.0 + made) }
 {
+    let mut made = 0;
     loop {
         let Turn::Done = next_item(bench, book, worker, tools)? else {
-            return Ok(());
+            return Ok(made);
         };
         book.keeps();
+        made += 2;
     }
 }
 
-/// The roots and the history of a book whose items are all given or used.
-pub(crate) fn finish<P: Piece, N: Board>(book: Book<P, N>) -> Finished<P>
-    requires { is_finished (course_of N.job book.0) ≡ true }
+/// The roots and the history of a book whose items are all given or used, with the number of its entries.
+pub(crate) fn finish<P: Piece, N: Board>(book: Book<P, N>, made: u64) -> Finished<P>
+    requires finished { is_finished (course_of N.job book.0) ≡ true }
+    requires made { length book.0 ≡ made }
     ensures roots { AreRootPieces P.job_of P.slot_of P.node_of P.made_of N.job result.roots.items }
     ensures history { IsCompleteOf N.job result.history.items }
     ensures workers { All (λ e. e.worker ≤ N.workers) result.history.items }
+    ensures made { result.made ≡ length result.history.items }
 {
     book.keeps();
     complete_history();
     let (roots, history) = book.take_roots();
-    Finished { roots, history }
+    Finished {
+        roots,
+        history,
+        made,
+    }
 }
 
 /// Does all items as worker 0, in a run of this number of workers.
@@ -121,10 +133,11 @@ pub(crate) fn run_here<P: Piece, T, H: Hands<P, T>, G: Gate, N: Board>(
     ensures roots { IfOk result (λ w. AreRootPieces P.job_of P.slot_of P.node_of P.made_of N.job w.roots.items) }
     ensures history { IfOk result (λ w. IsCompleteOf N.job w.history.items) }
     ensures workers { IfOk result (λ w. All (λ e. e.worker ≤ N.workers) w.history.items) }
+    ensures made { IfOk result (λ w. w.made ≡ length w.history.items) }
 {
     let mut book: Book<P, N> = Book::new(bench.alloc, job, workers)?;
-    let book = drain(bench, &mut book, 0, tools).and(Ok(book))?;
-    Ok(finish(book))
+    let (made, book) = both(drain(bench, &mut book, 0, tools), book)?;
+    Ok(finish(book, made))
 }
 
 /// Does all items of the job on the calling thread, as worker 0.
@@ -138,6 +151,7 @@ pub fn work_here<P: Piece, T, H: Hands<P, T>>(
     ensures roots { IfOk result (λ w. AreRootPieces P.job_of P.slot_of P.node_of P.made_of job.now w.roots.items) }
     ensures history { IfOk result (λ w. IsCompleteOf job.now w.history.items) }
     ensures workers { IfOk result (λ w. All (λ e. e.worker ≡ 0) w.history.items) }
+    ensures made { IfOk result (λ w. w.made ≡ length w.history.items) }
 {
     let bench = Bench {
         alloc,

@@ -9,7 +9,7 @@ pub mod hands;
 pub mod here;
 mod locked;
 mod seat;
-mod solver;
+pub mod solver;
 mod sorting;
 pub mod window;
 
@@ -17,4 +17,5 @@ pub use crew::{Worked, work_all};
 pub use fb_book::{Entry, Kind};
 pub use hands::{Gate, Hands, OpenGate};
 pub use here::{Finished, work_here};
-pub use window::{Crew, Window};
+pub use solver::{Counts, Solved, Solver, Tools};
+pub use window::{Crew, Window, decode_here, decode_window};

@@ -1,20 +1,20 @@
 //! The solver as the hands of workers.
 
-ghost use Rattle.std.specs.Prelude.{◌≡◌, ◌≢◌, ◌<◌, Some, None, length, IfOk, IfSome};
+ghost use Rattle.std.specs.Prelude.{◌≡◌, ◌≢◌, ◌<◌, Some, None, length, IfOk, IfSome, IfNone};
 ghost use Rattle.fb_half.specs.Parts.{IsPartOf};
-ghost use Rattle.fb_plan.specs.Plans.{children_of, node_count, root_of};
-ghost use Rattle.fb_crew.specs.InternalSolved.{Covers, IsFoundAt, item_at, item_of, shot_at};
+ghost use Rattle.fb_plan.specs.Plans.{children_of, root_of};
+ghost use Rattle.fb_crew.specs.InternalSolved.{IsFoundAt, item_at, item_of, shot_at};
 ghost use Rattle.fb_crew.specs.Windows.{IsShotRow};
 
 use crate::hands::Hands;
 use fb_book::Piece;
 use fb_fuse::fuse_from;
 use fb_graph::{Graph, NoMemory, Row, Steps, Whole};
-use fb_half::{Half, Spare, hull, within};
-use fb_plan::{Job, Reach};
+use fb_half::{Half, Spare};
+use fb_plan::Job;
 use fb_resolve::resolve;
 use fb_search::Scratch;
-use fb_unit::solve_within;
+use fb_unit::solve_unit_from;
 use std::alloc::Global;
 use std::marker::{Brand, Model};
 use std::sync::ledger::{Blank, Ledger};
@@ -32,9 +32,6 @@ pub struct Solved<'a> {
 /// worker's tools. Parts and rows are in boxes, since a book has room for a piece at each item.
 #[derive(Drop)]
 enum Found<'a> {
-    /// No part yet of a node below the root: all real vertices of its sub-problem lie within this reach, and few defects of
-    /// the shot do. To solve the node above whole costs less than to fuse parts of few defects.
-    Deferred(Reach),
     /// The part of a node below the root.
     Part(Box<Half<'a>, Global>),
     /// The row of the root's shot.
@@ -78,35 +75,25 @@ impl<'a> Solved<'a> {
         })
     }
 
-    /// The reach within which the vertices of a deferred node lie.
-    fn deferred(&self) -> Option<Reach>
-        ensures { IfSome result (Covers self.now.job self.now.node) }
+    /// The item's part, unless the item is the root's.
+    pub fn part(&self) -> Option<&Half<'a>>
+        ensures part { IfSome result (λ half. IsPartOf self.now.job self.now.slot self.now.node half.now) }
+        ensures root { IfNone result (self.now.node ≡ root_of self.now.job.plan) }
     {
-        match self.found {
-            Found::Deferred(reach) => Some(reach),
-            _ => None,
+        match &self.found {
+            Found::Part(half) => Some(half),
+            Found::Row(_) => None,
         }
     }
 
-    /// The part of a node below the root, solved now if it was deferred.
-    fn into_part(self, alloc: Global, tools: &mut Tools) -> Result<Box<Half<'a>, Global>, NoMemory>
-        requires slot { self.slot < length self.job.shots }
-        requires node { self.node < node_count self.job.plan }
-        requires below { self.node ≢ root_of self.job.plan }
-        ensures { IfOk result (λ half. IsPartOf self.entry.job self.entry.slot self.entry.node half.value) }
+    /// The part of a node below the root.
+    fn into_half(self) -> Half<'a>
+        requires { self.node ≢ root_of self.job.plan }
+        ensures { IsPartOf self.entry.job self.entry.slot self.entry.node result }
     {
-        let Solved {
-            job,
-            slot,
-            node,
-            found,
-        } = self;
+        let Solved { found, .. } = self;
         match found {
-            Found::Deferred(reach) => {
-                let part = whole_by::<Brand>(alloc, job, tools, slot, node, reach, Blank::new(1))?;
-                Ok(Box::new(alloc, part)?)
-            }
-            Found::Part(half) => Ok(half),
+            Found::Part(half) => Box::into_inner(half),
             Found::Row(_) => unreachable!(),
         }
     }
@@ -119,7 +106,7 @@ impl<'a> Solved<'a> {
         let Solved { found, .. } = self;
         match found {
             Found::Row(row) => Box::into_inner(row),
-            _ => unreachable!(),
+            Found::Part(_) => unreachable!(),
         }
     }
 }
@@ -161,8 +148,19 @@ const MOST_SPARES: usize = 16;
 /// too.
 const MOST_KEPT_DEFECTS: u32 = 1_024;
 
+/// What a worker has done with its tools: units solved, fusions made, and the searches of both that have matched their
+/// roots. A count stays at its greatest number.
+#[derive(Clone, Copy)]
+pub struct Counts {
+    pub units: u64,
+    pub unit_searches: u64,
+    pub fusions: u64,
+    pub fusion_searches: u64,
+}
+
 /// What a worker keeps from one part to the next, so that less memory is taken anew: the scratch space of its
-/// searches, and the room of roots that it has solved and of right parts that it has fused.
+/// searches, and the room of roots that it has solved and of right parts that it has fused. They count what is done with
+/// them.
 #[derive(Drop)]
 pub struct Tools {
     /// None at first, and if memory ran out while it was lent.
@@ -171,6 +169,7 @@ pub struct Tools {
     edges: u32,
     /// At most `MOST_SPARES`. The last one goes to the next unit.
     spares: Vec<Spare>,
+    counts: Counts,
 }
 
 impl Model for Tools {
@@ -190,7 +189,18 @@ impl Tools {
             scratch: None,
             edges: 0,
             spares: Vec::new(alloc),
+            counts: Counts {
+                units: 0,
+                unit_searches: 0,
+                fusions: 0,
+                fusion_searches: 0,
+            },
         }
+    }
+
+    /// What has been done with them.
+    pub fn counts(&self) -> Counts {
+        self.counts
     }
 
     /// Keeps the room of a part for another one, unless there is enough already or no memory to list it.
@@ -227,6 +237,22 @@ impl Tools {
         Scratch::new(alloc, &Whole(graph))
     }
 
+    /// Counts a unit and its searches.
+    fn count_unit(&mut self, searches: u64)
+        ensures { self.new ≡ self.old }
+    {
+        self.counts.units = self.counts.units.saturating_add(1);
+        self.counts.unit_searches = self.counts.unit_searches.saturating_add(searches);
+    }
+
+    /// Counts a fusion and its searches.
+    fn count_fusion(&mut self, searches: u64)
+        ensures { self.new ≡ self.old }
+    {
+        self.counts.fusions = self.counts.fusions.saturating_add(1);
+        self.counts.fusion_searches = self.counts.fusion_searches.saturating_add(searches);
+    }
+
     /// Takes the scratch space for the edges of a graph back.
     fn put_back(&mut self, scratch: Scratch, graph: &Graph)
         requires { scratch.edge_count ≡ length graph.now.edges }
@@ -261,116 +287,79 @@ impl<'a> Hands<Solved<'a>, Tools> for Solver<'a> {
         slot: u32,
         node: u32,
     ) -> Result<Solved<'a>, NoMemory> {
-        let reach = self.job.plan().reach(node);
-        solved_within(alloc, self.job, tools, slot, node, reach)
+        let half = unit_by::<Brand>(alloc, self.job, tools, slot, node, Blank::new(1))?;
+        Solved::of(alloc, tools, half)
     }
 
     fn fusion(
         &self,
         alloc: Global,
         tools: &mut Tools,
-        slot: u32,
+        _slot: u32,
         node: u32,
         left: Solved<'a>,
         right: Solved<'a>,
     ) -> Result<Solved<'a>, NoMemory> {
         self.job.keeps();
-        if let (Some(first), Some(second)) = (left.deferred(), right.deferred()) {
-            let children = hull(first, second);
-            let reach = hull(children, self.job.plan().reach(node));
-            return solved_within(alloc, self.job, tools, slot, node, reach);
-        }
-        let left = left.into_part(alloc, tools)?;
-        let right = right.into_part(alloc, tools)?;
-        fusion_by::<Brand>(alloc, self.job, tools, node, left, right, Blank::new(1))
+        let (left, right) = (left.into_half(), right.into_half());
+        let half = fusion_by::<Brand>(alloc, self.job, tools, node, left, right, Blank::new(1))?;
+        Solved::of(alloc, tools, half)
     }
 }
 
-/// The most defects of a node that is deferred. Before any search a fusion costs about as much as two defects.
-const MOST_DEFERRED_DEFECTS: usize = 8;
-
-/// The item of a node that is solved whole, and not from its children's parts. It is deferred if it isn't the root and few
-/// defects lie within the reach.
-fn solved_within<'a>(
+/// The part of a unit. The tools count it and its searches.
+fn unit_by<'a, L: Ledger>(
     alloc: Global,
     job: &'a Job<'a>,
     tools: &mut Tools,
     slot: u32,
     node: u32,
-    reach: Reach,
-) -> Result<Solved<'a>, NoMemory>
-    requires slot { slot < length job.now.shots }
-    requires node { node < node_count job.now.plan }
-    requires reach { Covers job.now node reach }
-    ensures { IfOk result (λ s. s ≡ item_at job.now slot node) }
-{
-    job.keeps();
-    let shot = job.shots()[slot as usize].as_slice();
-    if node != job.plan().root() && within(shot, reach).len() <= MOST_DEFERRED_DEFECTS {
-        return Ok(Solved {
-            job,
-            slot,
-            node,
-            found: Found::Deferred(reach),
-        });
-    }
-    let half = whole_by::<Brand>(alloc, job, tools, slot, node, reach, Blank::new(1))?;
-    Solved::of(alloc, tools, half)
-}
-
-/// The part of a node that is solved whole. Its searches are counted, and the count is dropped.
-fn whole_by<'a, L: Ledger>(
-    alloc: Global,
-    job: &'a Job<'a>,
-    tools: &mut Tools,
-    slot: u32,
-    node: u32,
-    reach: Reach,
     blank: Blank,
 ) -> Result<Half<'a>, NoMemory>
     requires name { blank.name ≡ L.name }
     requires parts { blank.parts ≡ L.parts }
     requires some { 0 < blank.parts }
     requires slot { slot < length job.now.shots }
-    requires node { node < node_count job.now.plan }
-    requires reach { Covers job.now node reach }
+    requires unit { node < job.now.plan.units }
     ensures { IfOk result (IsPartOf job.now slot node) }
 {
     let scratch = tools.lend(alloc, job.graph())?;
     let spare = tools.spares.pop();
     let mut steps = Steps::<L>::new(blank);
-    let (half, scratch) = solve_within(alloc, job, slot, node, reach, spare, scratch, &mut steps)?;
+    let before = scratch.matched();
+    let (half, scratch) = solve_unit_from(alloc, job, slot, node, spare, scratch, &mut steps)?;
+    tools.count_unit(scratch.matched().saturating_sub(before));
     tools.put_back(scratch, job.graph());
     Ok(half)
 }
 
-/// The solved item of a fusion. Its searches are counted, and the count is dropped.
+/// The part of a fusion. The tools count it and its searches.
 fn fusion_by<'a, L: Ledger>(
     alloc: Global,
     job: &'a Job<'a>,
     tools: &mut Tools,
     node: u32,
-    left: Box<Half<'a>, Global>,
-    right: Box<Half<'a>, Global>,
+    left: Half<'a>,
+    right: Half<'a>,
     blank: Blank,
-) -> Result<Solved<'a>, NoMemory>
+) -> Result<Half<'a>, NoMemory>
     requires name { blank.name ≡ L.name }
     requires parts { blank.parts ≡ L.parts }
     requires some { 0 < blank.parts }
-    requires left { left.value.job ≡ job.now }
-    requires right { right.value.job ≡ job.now }
-    requires slot { left.value.slot ≡ right.value.slot }
-    requires children { children_of job.now.plan node ≡ Some (left.value.node, right.value.node) }
-    ensures { IfOk result (λ s. s ≡ item_at job.now left.entry.value.slot node) }
+    requires left { left.job ≡ job.now }
+    requires right { right.job ≡ job.now }
+    requires slot { left.slot ≡ right.slot }
+    requires children { children_of job.now.plan node ≡ Some (left.node, right.node) }
+    ensures { IfOk result (IsPartOf job.now left.entry.slot node) }
 {
     let scratch = tools.lend(alloc, job.graph())?;
     let mut steps = Steps::<L>::new(blank);
-    let left = Box::into_inner(left);
-    let right = Box::into_inner(right);
+    let before = scratch.matched();
     let (half, spare, scratch) = fuse_from(alloc, job, node, left, right, scratch, &mut steps)?;
+    tools.count_fusion(scratch.matched().saturating_sub(before));
     tools.put_back(scratch, job.graph());
     tools.keep(spare);
-    Solved::of(alloc, tools, half)
+    Ok(half)
 }
 
 /// Whether the shot of a part has at most `MOST_KEPT_DEFECTS` defects.

@@ -1,17 +1,20 @@
 //! The rows of some shots, made side by side.
 
-ghost use Rattle.std.specs.Prelude.{◌≡◌, ◌≤◌, length, get_or, slice_get, [], Some, ℕ, All, IfOk};
+ghost use Rattle.std.specs.Prelude.{◌≡◌, ◌≤◌, length, ℕ, All, IfOk, IfSome};
 ghost use Rattle.fb_graph.specs.Limits.{IsShot};
 ghost use Rattle.fb_plan.specs.Plans.{IsPlan, root_of};
-ghost use Rattle.fb_crew.specs.InternalWindows.{AreRowsOf};
+ghost use Rattle.fb_crew.specs.Crews.{IsCompleteOf};
+ghost use Rattle.fb_crew.specs.InternalWindows.{AreRowsOf, AreSolvedRoots, IsSorted};
 ghost use Rattle.fb_crew.specs.Windows.{AreRows, IsHistoryOf};
 
 use crate::crew::{Worked, work_all};
-use crate::hands::Gate;
+use crate::hands::{Gate, Placed};
+use crate::here::{Finished, work_here};
 use crate::solver::{Solved, Solver, Tools};
 use crate::sorting::{Sorted, join_rows, renumber, sort_out};
 use fb_book::{Entry, MOST_AT_ONCE, MOST_WORKERS};
 use fb_graph::{Components, Graph, NoMemory, Row, Shot, Whole, components};
+use fb_half::both::both;
 use fb_plan::{Job, Plan};
 use std::alloc::Global;
 use std::marker::Model;
@@ -104,6 +107,17 @@ impl<'a> Crew<'a> {
         self.tools = Some(tools);
         Ok(window)
     }
+
+    /// The tools of its workers, which count what is done with them. None before the first window, and if memory ran out
+    /// while they were lent.
+    pub fn tools(&self) -> Option<&[Tools]>
+        ensures { IfSome result (λ tools. length tools.now ≡ self.now.workers) }
+    {
+        match &self.tools {
+            Some(tools) => Some(tools.as_slice()),
+            None => None,
+        }
+    }
 }
 
 /// The rows of shots and how they were made by this number of workers, and the workers' tools.
@@ -131,15 +145,110 @@ fn solve_window<G: Gate, R: Threads + Wait + Sync>(
     let Sorted { odd, even, places } = sort_out(alloc, parts, shots)?;
     let job = Job::new(graph, plan, even);
     let solver = Solver::new(&job);
+    let gate = Placed {
+        gate,
+        places: places.as_slice(),
+    };
     let Worked {
         roots,
-        mut history,
+        history,
         tools,
-    } = work_all(rt, alloc, &job, workers, &solver, gate, tools)?;
+        ..
+    } = work_all(rt, alloc, &job, workers, &solver, &gate, tools)?;
+    let window = join_window(
+        alloc,
+        &job,
+        shots,
+        odd.as_slice(),
+        places.as_slice(),
+        roots,
+        history,
+    );
+    both(window, tools)
+}
+
+/// The rows of shots by this number of workers, and how they were made. What a `Crew` does for each of its windows, but with
+/// tools for this one alone.
+pub fn decode_window<G: Gate, R: Threads + Wait + Sync>(
+    rt: &R,
+    alloc: Global,
+    graph: &Graph,
+    plan: &Plan,
+    parts: &mut Components<Whole<'_>>,
+    shots: &[Shot],
+    workers: u32,
+    gate: &G,
+) -> Result<Window, NoMemory>
+    requires plan { IsPlan graph.now plan.now }
+    requires parts { parts.old.0.now ≡ graph.now }
+    requires shots { All (IsShot graph.now) shots.now }
+    requires few { length shots.now ≤ MOST_AT_ONCE }
+    requires workers { (1 ≤ workers) × (workers ≤ MOST_WORKERS) }
+    ensures rows { IfOk result (λ w. AreRows graph.now shots.now w.rows.items) }
+    ensures history { IfOk result (λ w. IsHistoryOf plan.now workers w.rows.items w.history.items) }
+    ensures same { parts.new ≡ parts.old }
+{
+    let tools = empty_tools(alloc, workers)?;
+    let (window, _tools) = solve_window(
+        rt, alloc, graph, plan, parts, workers, shots, tools, gate,
+    )?;
+    Ok(window)
+}
+
+/// The rows of shots, and how they were made: all on the calling thread, as worker 0.
+pub fn decode_here(
+    alloc: Global,
+    graph: &Graph,
+    plan: &Plan,
+    parts: &mut Components<Whole<'_>>,
+    shots: &[Shot],
+) -> Result<Window, NoMemory>
+    requires plan { IsPlan graph.now plan.now }
+    requires parts { parts.old.0.now ≡ graph.now }
+    requires shots { All (IsShot graph.now) shots.now }
+    requires few { length shots.now ≤ MOST_AT_ONCE }
+    ensures rows { IfOk result (λ w. AreRows graph.now shots.now w.rows.items) }
+    ensures history { IfOk result (λ w. IsHistoryOf plan.now 0 w.rows.items w.history.items) }
+    ensures same { parts.new ≡ parts.old }
+{
+    let Sorted { odd, even, places } = sort_out(alloc, parts, shots)?;
+    let job = Job::new(graph, plan, even);
+    let solver = Solver::new(&job);
+    let mut tools = Tools::new(alloc);
+    let Finished { roots, history, .. } = work_here(alloc, &job, &solver, &mut tools)?;
+    join_window(
+        alloc,
+        &job,
+        shots,
+        odd.as_slice(),
+        places.as_slice(),
+        roots,
+        history,
+    )
+}
+
+/// The rows of all shots and how they were made, put together of what a job of those that have a correction came to.
+fn join_window(
+    alloc: Global,
+    job: &Job<'_>,
+    shots: &[Shot],
+    odd: &[Option<u32>],
+    places: &[u32],
+    roots: Vec<Solved<'_>>,
+    mut history: Vec<Entry>,
+) -> Result<Window, NoMemory>
+    requires plan { IsPlan job.now.graph job.now.plan }
+    requires sorted { IsSorted job.now.graph shots.now odd.now job.now.shots places.now }
+    requires roots { AreSolvedRoots job.now roots.items }
+    requires history { IsCompleteOf job.now history.items }
+    ensures { (workers : ℕ) → All (λ e. e.worker ≤ workers) history.items → IfOk result (λ w.
+        AreRows job.now.graph shots.now w.rows.items × IsHistoryOf job.now.plan workers w.rows.items w.history.items) }
+{
+    let _shots = shots;
     let solved = rows_of(alloc, roots)?;
-    let rows = join_rows(alloc, odd.as_slice(), solved)?;
-    renumber(&mut history, places.as_slice());
-    Ok((Window { rows, history }, tools))
+    let rows = join_rows(alloc, odd, solved)?;
+    renumber(&mut history, places);
+    Ok(Window { rows, history })
 }
 
 /// Tools for each worker, with nothing in them.

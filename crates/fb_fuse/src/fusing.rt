@@ -5,7 +5,7 @@ ghost use Rattle.fb_half.specs.Parts.{IsPartOf, problem_in};
 ghost use Rattle.fb_plan.specs.Plans.{children_of};
 ghost use Rattle.fb_search.specs.Progress.{IsSamePart};
 
-use fb_graph::{NoMemory, Steps};
+use fb_graph::{NoMemory, Steps, Whole};
 use fb_half::{Half, Spare, Work};
 use fb_plan::Job;
 use fb_regions::NodeId;
@@ -35,11 +35,9 @@ pub fn fuse<'a, L: Ledger>(
     ensures least { IfOk result (λ half. (length (freed_in left.entry node) + length (freed_in right.entry node)
         + length (seam_defects job.now left.entry.slot node)) + 2 * steps.old ≤ 2 * steps.new) }
 {
-    let work = Work::merge(alloc, job, node, left, right)?;
-    let scratch = Scratch::new(alloc, work.regions().scope())?;
-    let (work, scratch) = search_all(alloc, work, scratch, steps)?;
-    drop(scratch);
-    Ok(work.close())
+    let scratch = Scratch::new(alloc, &Whole(job.graph()))?;
+    let (half, _spare, _scratch) = fuse_from(alloc, job, node, left, right, scratch, steps)?;
+    Ok(half)
 }
 
 /// The same as `fuse`, with scratch space that is lent and returned, so that one serves many parts of a graph. The room that

@@ -1,5 +1,5 @@
 -- The defects of a shot within a node's reach: these alone may be the node's own.
-use Rattle.std.proofs.Common.{ℕ, ◌≡◌, ◌+◌, ◌<◌, Bool, true, false, cond, List, [], ◌∷◌, ◌++◌, length, get_or, take, drop, nat_eq, All, Option, Some, None, nat_le, nat_lt, refl, sym, ap, ◌∙◌, subst, arith, length-take, length-drop, ◌≤◌, ◌-◌, min, max}
+use Rattle.std.proofs.Common.{ℕ, ◌≡◌, ◌+◌, ◌<◌, Bool, true, false, cond, List, [], ◌∷◌, ◌++◌, length, get_or, take, drop, nat_eq, All, Option, Some, None, nat_le, nat_lt, refl, sym, ap, ◌∙◌, subst, arith, length-take, length-drop, ◌≤◌}
 use Rattle.std.specs.List.{AllWithin, filter}
 use Rattle.std.specs.Option.{option_eq}
 use Rattle.std.specs.List.Sorted.{IsNonDecreasingBy, IsPartitionPoint, IsStrictlyIncreasing}
@@ -14,7 +14,7 @@ use Rattle.fb_plan.specs.Plans.{PlanTree, owner_of, problem_at}
 use Rattle.fb_plan.specs.Reaches.{IsReach, is_reached}
 use Rattle.fb_plan.specs.declared.reach.Reach.{Reach}
 use Rattle.fb_plan.proofs.FusionSeams.{unit_is_own}
-use Rattle.fb_half.specs.Beginnings.{IsInside, LiesWithin}
+use Rattle.fb_half.specs.InternalBeginnings.{LiesWithin}
 use Rattle.fb_half.specs.Merged.{is_owned_by}
 use Rattle.fb_half.proofs.FusedMatches.{filter_all, filter_none}
 use Rattle.fb_half.proofs.MergedHalves.{own_is_owned}
@@ -126,19 +126,3 @@ cut_out r xs rest i j rest_is from to =
     beyond v a =
         and_right (nat_le r.first v) (nat_lt v r.end)
         (All_among (λ u. nat_lt u r.end ≡ false) (drop j rest) (back (λ u. nat_lt u r.end ≡ false) rest j to.1) v a)
-
--- a reach that isn't empty has its ends inside another that is over it
-ends_inside : (inner outer : Reach) → inner.first < inner.end → IsInside inner outer → (outer.first ≤ inner.first) × (inner.end ≤ outer.end)
-ends_inside inner outer some inside =
-    let first = reached_parts outer inner.first (inside inner.first (reached_between inner inner.first (omega arith) some)) in
-    let last = reached_parts outer (inner.end - 1) (inside (inner.end - 1) (reached_between inner (inner.end - 1) (omega arith) (omega arith))) in
-    (first.0, omega (arith, last.1, some))
-
--- so a reach from the lesser first to the greater end of both is within each that is over both
-pub least_over : (left right result outer : Reach) → left.first < left.end → right.first < right.end → result.first ≡ min left.first right.first
-    → result.end ≡ max left.end right.end → IsInside left outer → IsInside right outer → IsInside result outer
-least_over left right result outer some other first end one two v reached =
-    let parts = reached_parts result v reached in
-    let left_ends = ends_inside left outer some one in
-    let right_ends = ends_inside right outer other two in
-    reached_between outer v (omega (arith, parts.0, first, left_ends.0, right_ends.0)) (omega (arith, parts.1, end, left_ends.1, right_ends.1))

@@ -1,23 +1,12 @@
 -- How a half-solved part begins: each defect of its own is a node, and none is matched.
-use Rattle.std.specs.Prelude.{ℕ, ◌≡◌, true, List, [], ◌∷◌, length, filter}
-use Rattle.fb_graph.specs.Problem.{Problem}
+use Rattle.std.specs.Prelude.{ℕ, ◌≡◌, List, [], ◌∷◌, length, filter}
 use Rattle.fb_graph.specs.Dual.{Node, leaf}
 use Rattle.fb_plan.specs.Plans.{JobValue}
-use Rattle.fb_plan.specs.Reaches.{is_reached}
-use Rattle.fb_plan.specs.declared.reach.Reach.{Reach}
 use Rattle.fb_half.specs.Parts.{PartValue, problem_in, shot_of}
 
 -- the defects of the shot at the part's real vertices, in their order
 abbrev pub own_defects : PartValue → List ℕ
 own_defects w = filter (problem_in w).is_real (shot_of w).defects
-
--- all real vertices of the problem lie within the reach
-abbrev pub LiesWithin : Problem → Reach → Type 0
-LiesWithin p r = (v : ℕ) → p.is_real v ≡ true → is_reached r v ≡ true
-
--- what lies within the one reach lies within the other one
-abbrev pub IsInside : Reach → Reach → Type 0
-IsInside inner outer = (v : ℕ) → is_reached inner v ≡ true → is_reached outer v ≡ true
 
 -- each defect as a node of radius 0, with the name at its place
 abbrev pub leaves_by : List ℕ → List ℕ → List Node

@@ -1,12 +1,19 @@
 -- A part while it has no nodes, and while its defects become nodes, one after another.
-use Rattle.std.specs.Prelude.{ℕ, ◌≡◌, ◌==◌, if◌then◌else◌, List, [], ◌∷◌, length, Option, Some, None}
+use Rattle.std.specs.Prelude.{ℕ, ◌≡◌, ◌==◌, if◌then◌else◌, true, List, [], ◌∷◌, length, Option, Some, None}
 use Rattle.fb_graph.specs.Certificate.{AreDistinct}
 use Rattle.fb_graph.specs.Dual.{Node}
+use Rattle.fb_graph.specs.Problem.{Problem}
 use Rattle.fb_plan.specs.Plans.{JobValue}
+use Rattle.fb_plan.specs.Reaches.{is_reached}
+use Rattle.fb_plan.specs.declared.reach.Reach.{Reach}
 use Rattle.fb_blossoms.specs.Nodes as blossoms
 use Rattle.fb_half.specs.Beginnings.{leaves_by}
 use Rattle.fb_half.specs.Matchings.{MatchingValue}
 use Rattle.fb_half.specs.Parts.{PartValue}
+
+-- all real vertices of the problem lie within the reach
+abbrev pub LiesWithin : Problem → Reach → Type 0
+LiesWithin p r = (v : ℕ) → p.is_real v ≡ true → is_reached r v ≡ true
 
 -- a part without nodes
 abbrev pub empty_part : JobValue → ℕ → ℕ → PartValue

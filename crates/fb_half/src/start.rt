@@ -6,8 +6,7 @@ ghost use Rattle.fb_graph.specs.Limits.{no_shot};
 ghost use Rattle.fb_graph.specs.Parity.{is_in};
 ghost use Rattle.fb_plan.specs.Plans.{problem_at};
 ghost use Rattle.fb_blossoms.specs.Nodes as blossoms;
-ghost use Rattle.fb_half.specs.Beginnings.{LiesWithin};
-ghost use Rattle.fb_half.specs.InternalBeginnings.{IsStarted, empty_part};
+ghost use Rattle.fb_half.specs.InternalBeginnings.{IsStarted, LiesWithin, empty_part};
 ghost use Rattle.fb_half.specs.Matchings.{listed_names};
 ghost use Rattle.fb_half.specs.Values.{HasScope, part_of};
 
@@ -42,17 +41,15 @@ pub(crate) fn own_defects(
     Ok(own.into_vec())
 }
 
-/// The defects of a shot of the job at real vertices of a node's sub-problem, in their order. Passes over those within a
-/// reach alone, which has all these vertices.
+/// The defects of a shot of the job at vertices of a unit, in their order. Passes over those within the unit's reach alone.
 pub(crate) fn defects_at(
     alloc: Global,
     job: &Job<'_>,
     slot: u32,
     node: u32,
-    reach: Reach,
 ) -> Result<Vec<u32>, NoMemory>
     requires slot { slot < length job.now.shots }
-    requires reach { LiesWithin (problem_at job.now.graph job.now.plan node no_shot) reach }
+    requires unit { node < job.now.plan.units }
     ensures { IfOk result (λ own. own.items ≡ filter (problem_at job.now.graph job.now.plan node no_shot).is_real (get_or job.now.shots slot no_shot).defects) }
 {
     job.keeps();
@@ -61,6 +58,7 @@ pub(crate) fn defects_at(
         plan: job.plan(),
         node,
     };
+    let reach = job.plan().reach(node);
     own_defects(alloc, &scope, reach, job.shots()[slot as usize].as_slice())
 }
 

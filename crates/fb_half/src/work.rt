@@ -1,8 +1,7 @@
 ghost use Rattle.std.specs.Prelude.{◌≡◌, ◌<◌, [], length, IfOk, Some};
-ghost use Rattle.fb_graph.specs.Limits.{no_shot};
-ghost use Rattle.fb_plan.specs.Plans.{children_of, node_count, problem_at};
+ghost use Rattle.fb_plan.specs.Plans.{children_of};
 ghost use Rattle.fb_half.specs.Merged.{IsMerged};
-ghost use Rattle.fb_half.specs.Beginnings.{IsBegun, LiesWithin};
+ghost use Rattle.fb_half.specs.Beginnings.{IsBegun};
 ghost use Rattle.fb_half.specs.Matchings.{match_links};
 ghost use Rattle.fb_half.specs.Parts.{IsPart};
 ghost use Rattle.fb_half.specs.Values.{HasScope, IsScopeOf, part_of};
@@ -18,7 +17,7 @@ use fb_blossoms::Blossoms;
 use fb_graph::{NoMemory, Scope};
 use fb_laws::state_begins;
 use fb_links::{LinkId, Links, NodeId};
-use fb_plan::{Job, NodeScope, Reach};
+use fb_plan::{Job, NodeScope};
 use fb_regions::Regions;
 use std::alloc::Global;
 use std::marker::Model;
@@ -153,29 +152,24 @@ impl<'a> Work<'a> {
         requires unit { node < job.now.plan.units }
         ensures { IfOk result (λ w. IsBegun job.now slot node w) }
     {
-        job.keeps();
-        Work::begin_within(alloc, job, slot, node, job.plan().reach(node), None)
+        Work::begin_on(alloc, job, slot, node, None)
     }
 
-    /// The part of any node of the plan before any search, a fusion's too, as if the node were a unit: each defect of the
-    /// shot at a real vertex of its sub-problem is a node. All these vertices lie within the given reach, and only the
-    /// defects there are passed over. In the room of a part that is no longer used, if there is one: with that of a part of
-    /// the same graph it takes no time for the graph's vertices.
-    pub fn begin_within(
+    /// The same as `begin`, in the room of a part that is no longer used, if there is one. With that of a part of the same
+    /// graph it takes no time for the graph's vertices.
+    pub fn begin_on(
         alloc: Global,
         job: &'a Job<'a>,
         slot: u32,
         node: u32,
-        reach: Reach,
         spare: Option<Spare>,
     ) -> Result<Work<'a>, NoMemory>
         requires slot { slot < length job.now.shots }
-        requires node { node < node_count job.now.plan }
-        requires reach { LiesWithin (problem_at job.now.graph job.now.plan node no_shot) reach }
+        requires unit { node < job.now.plan.units }
         ensures { IfOk result (λ w. IsBegun job.now slot node w) }
     {
         job.keeps();
-        let (own, spare) = both(defects_at(alloc, job, slot, node, reach), spare)?;
+        let (own, spare) = both(defects_at(alloc, job, slot, node), spare)?;
         let mut parts = empty_parts(alloc, job, slot, node, spare)?;
         let parts = start(alloc, &mut parts, &own).and(Ok(parts))?;
         state_begins();

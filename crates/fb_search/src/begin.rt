@@ -20,7 +20,11 @@ impl<'a> Searching<'a> {
         ensures watched { result.watched.edge_count ≡ scratch.edge_count }
     {
         work.keeps();
-        let Scratch { mut watch, tree } = scratch;
+        let Scratch {
+            mut watch,
+            tree,
+            ..
+        } = scratch;
         watch.clear();
         let parts = work.into_parts();
         let scope = NodeScope {

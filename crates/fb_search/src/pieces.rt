@@ -34,5 +34,10 @@ pub(crate) fn into_work<'a>(
 {
     let pieces = done.and(Ok(pieces))?;
     let Pieces { parts, tree, watch } = pieces;
-    Ok((Work::from_parts(parts), Scratch { watch, tree }))
+    let scratch = Scratch {
+        watch,
+        tree,
+        matched: 0,
+    };
+    Ok((Work::from_parts(parts), scratch))
 }

@@ -173,11 +173,25 @@ fn search_within<'a, L: Ledger>(
     ensures step { IfOk result (λ b. steps.new ≡ steps_with b.left steps.old) }
     ensures kept { OnErr result (steps.new ≡ steps.old) }
 {
-    let bounded = match_within(alloc, work, root, factor, scratch)?;
-    if let None = bounded.left {
-        steps.tick();
+    let matched = scratch.matched();
+    let Bounded {
+        work,
+        scratch,
+        left,
+    } = match_within(alloc, work, root, factor, scratch)?;
+    if let Some(name) = left {
+        return Ok(Bounded {
+            work,
+            scratch: scratch.with_matched(matched),
+            left: Some(name),
+        });
     }
-    Ok(bounded)
+    steps.tick();
+    Ok(Bounded {
+        work,
+        scratch: scratch.with_matched(matched.saturating_add(1)),
+        left: None,
+    })
 }
 
 /// Half the heaviest weight of the edges at the node's first vertex, as an even number of at least 2.

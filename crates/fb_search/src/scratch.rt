@@ -12,6 +12,8 @@ use std::marker::Model;
 pub struct Scratch {
     pub(crate) watch: Watch,
     pub(crate) tree: Tree,
+    /// How many searches have matched their root with it. It stays at its greatest number.
+    pub(crate) matched: u64,
 }
 
 impl Model for Scratch {
@@ -31,6 +33,27 @@ impl Scratch {
     {
         let watch = Watch::new(alloc, scope)?;
         let tree = Tree::start(alloc, 0)?;
-        Ok(Scratch { watch, tree })
+        Ok(Scratch {
+            watch,
+            tree,
+            matched: 0,
+        })
+    }
+
+    /// How many searches have matched their root with it: those that a counter of steps counts.
+    pub fn matched(&self) -> u64 {
+        self.matched
+    }
+
+    /// The same, with this number of searches that have matched their root.
+    pub(crate) fn with_matched(self, matched: u64) -> Scratch
+        ensures { result ≡ self }
+    {
+        let Scratch { watch, tree, .. } = self;
+        Scratch {
+            watch,
+            tree,
+            matched,
+        }
     }
 }

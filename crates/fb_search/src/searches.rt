@@ -56,9 +56,10 @@ pub fn search_from<'a, L: Ledger>(
     ensures step { IfOk result (λ after. steps.new ≡ steps.old + 1) }
     ensures kept { OnErr result (steps.new ≡ steps.old) }
 {
+    let matched = scratch.matched().saturating_add(1);
     let bounded = match_within(alloc, work, root, None, scratch)?;
     steps.tick();
-    Ok((bounded.work, bounded.scratch))
+    Ok((bounded.work, bounded.scratch.with_matched(matched)))
 }
 
 /// Searches from the nodes that are still unmatched when their turn comes, in rounds. Trees are kept small in the first

@@ -4,4 +4,4 @@
 
 pub mod unit;
 
-pub use unit::{solve_unit, solve_within};
+pub use unit::{solve_unit, solve_unit_from};

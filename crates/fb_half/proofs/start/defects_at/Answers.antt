@@ -2,14 +2,18 @@ use Rattle.std.proofs.Common.{◌<◌, All, sym, subst}
 use Rattle.std.specs.List.Sorted.{IsStrictlyIncreasing}
 use Rattle.fb_graph.specs.Limits.{no_shot}
 use Rattle.fb_plan.specs.Plans.{problem_at}
-use Rattle.fb_half.specs.Beginnings.{LiesWithin}
+use Rattle.fb_half.specs.InternalBeginnings.{LiesWithin}
+use Rattle.fb_plan.specs.Reaches.{IsReach}
 use Rattle.fb_half.proofs.BegunParts.{shot_at, shot_below, shot_read}
+use Rattle.fb_half.proofs.Reached.{unit_within}
 use Rattle.fb_half.proofs.start.defects_at.Goals as goal
 
 pub own_defects-requires-clause-reach : goal.own_defects-requires-clause-reach
 own_defects-requires-clause-reach c =
-    subst (λ g. LiesWithin (problem_at g c.plan.result.now c.args.node no_shot) c.args.reach) (sym c.graph.ensures)
-    (subst (λ t. LiesWithin (problem_at c.args.job.now.graph t c.args.node no_shot) c.args.reach) (sym c.plan.ensures) c.requires.reach)
+    subst (λ g. LiesWithin (problem_at g c.plan.result.now c.args.node no_shot) c.reach-reach.result) (sym c.graph.ensures)
+    (subst (λ t. LiesWithin (problem_at c.args.job.now.graph t c.args.node no_shot) c.reach-reach.result) (sym c.plan.ensures)
+    (unit_within c.args.job.now.graph c.args.job.now.plan c.args.node c.reach-reach.result c.requires.unit
+    (subst (λ t. IsReach t.owners c.args.node c.reach-reach.result) c.plan-2.ensures c.reach-reach.ensures)))
 
 pub own_defects-requires-clause-rising : goal.own_defects-requires-clause-rising
 own_defects-requires-clause-rising c =

@@ -8,7 +8,7 @@ returns-clause-searched g c =
     subst (IsLeft c.args.root c.args.work c.in_ok-bounded.bounded.work) (ended.without_limit refl) ended.left
 
 pub returns-clause-room : goal.returns-clause-room
-returns-clause-room g c = c.in_ok-bounded.ensures.room
+returns-clause-room g c = rw c.with_matched.ensures c.in_ok-bounded.ensures.room
 
 pub returns-clause-step : goal.returns-clause-step
 returns-clause-step g c = omega arith

@@ -1,4 +1,4 @@
-use Rattle.std.proofs.Common.{◌≡◌, ◌∙◌, true, All, [], sym, ap, subst}
+use Rattle.std.proofs.Common.{◌≡◌, ◌∙◌, true, All, [], sym, ap, subst, arith}
 use Rattle.std.specs.Prelude.{OnOk}
 use Rattle.fb_graph.specs.Certificate.{AreDistinct}
 use Rattle.fb_graph.specs.Limits.{no_shot}
@@ -8,7 +8,7 @@ use Rattle.fb_half.specs.InternalBeginnings.{IsStarted}
 use Rattle.fb_half.specs.Values.{HasScope, part_of}
 use Rattle.fb_half.proofs.BegunParts.{begun_is, begun_of, own_distinct, own_real}
 use Rattle.fb_half.proofs.DoneSteps.{done_with, made_holds}
-use Rattle.fb_half.proofs.work.Work.begin_within.Goals as goal
+use Rattle.fb_half.proofs.work.Work.begin_on.Goals as goal
 
 pub start-requires-clause-distinct : goal.start-requires-clause-distinct
 start-requires-clause-distinct c =
@@ -32,7 +32,7 @@ invariant_of-result c =
           (keeps (λ p. p.job.now ≡ c.in_ok-parts.parts.job.now) c.start.ensures.job ∙ ap (λ w. w.job) c.in_ok-parts.ensures.value)
           (keeps (λ p. p.slot ≡ c.in_ok-parts.parts.slot) c.start.ensures.slot ∙ ap (λ w. w.slot) c.in_ok-parts.ensures.value)
           (keeps (λ p. p.node ≡ c.in_ok-parts.parts.node) c.start.ensures.node ∙ ap (λ w. w.node) c.in_ok-parts.ensures.value)
-          c.keeps.ensures c.requires.slot c.requires.node
+          c.keeps.ensures c.requires.slot (omega (arith, c.requires.unit))
           (c.deref.ensures.value ∙ made_holds _ _ _ c.in_ok-own.ensures.0 c.defects_at.ensures)
           (keeps (λ p. IsStarted c.deref.result.now p.regions.nodes p.blossoms p.matching) c.start.ensures.started)
           (keeps (λ p. p.links ≡ []) c.start.ensures.links),

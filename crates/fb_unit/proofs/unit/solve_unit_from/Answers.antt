@@ -1,7 +1,7 @@
 use Rattle.std.proofs.Common.{◌∙◌, ap}
 use Rattle.fb_graph.specs.Parity.{is_in}
 use Rattle.fb_search.proofs.SearchedEach.{all_matched}
-use Rattle.fb_unit.proofs.unit.solve_within.Goals as goal
+use Rattle.fb_unit.proofs.unit.solve_unit_from.Goals as goal
 
 pub close-requires : goal.close-requires
 close-requires g c =

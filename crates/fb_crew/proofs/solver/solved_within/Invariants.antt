@@ -1,4 +1,0 @@
-use Rattle.fb_crew.proofs.solver.solved_within.Given as goal
-
-abbrev pub ghosts-whole_by : goal.ghosts-whole_by
-ghosts-whole_by a = record { name = a.blank.name; parts = a.blank.parts }

@@ -1,0 +1,227 @@
+//! Parts of a plan that are solved and fused, one by one and by workers.
+
+use crate::lines::{Line, is_row};
+use crate::stopped::Stopped;
+use fb_crew::{Hands, OpenGate, Solved, Solver, Tools, decode_window, work_all};
+use fb_fuse::fuse;
+use fb_graph::{NoMemory, Row, Scope, Shot, Steps, components};
+use fb_half::{Half, Standing, Work};
+use fb_plan::{Job, NodeScope, Plan};
+use fb_resolve::resolve;
+use fb_search::search;
+use fb_unit::solve_unit;
+use std::alloc::Global;
+use std::marker::Brand;
+use std::sync::Wait;
+use std::sync::atomic::{AtomicU64, Ordering};
+use std::sync::ledger::{Blank, Ledger};
+use std::thread::Threads;
+
+/// Between 1 and 3 either defect may grow. Of its own unit the defect at 5 knows the seam at 4 alone.
+const WEIGHTS: [i128; 6] = [40, 2, 2, 40, 4, 10];
+
+/// The part of unit 0, whose searches begin with the last defect.
+fn solve_from_the_last<'a, L: Ledger>(
+    alloc: Global,
+    job: &'a Job<'a>,
+    steps: &mut Steps<L>,
+) -> Result<Half<'a>, NoMemory> {
+    let mut work = Work::begin(alloc, job, 0, 0)?;
+    let roots = Vec::from_slice(alloc, work.unmatched())?;
+    for root in roots.iter().rev() {
+        if matches!(work.matching().standing(*root), Standing::Unmatched(_)) {
+            work = search(alloc, work, *root, steps)?;
+        }
+    }
+    Ok(work.close())
+}
+
+/// The row of both units fused.
+fn fuse_units<'a, L: Ledger>(
+    alloc: Global,
+    job: &'a Job<'a>,
+    is_from_the_last: bool,
+    blank: Blank,
+) -> Result<Row, NoMemory> {
+    let mut steps = Steps::<L>::new(blank);
+    let left = if is_from_the_last {
+        solve_from_the_last(alloc, job, &mut steps)?
+    } else {
+        solve_unit(alloc, job, 0, 0, &mut steps)?
+    };
+    let right = solve_unit(alloc, job, 0, 1, &mut steps)?;
+    let whole = fuse(alloc, job, 2, left, right, &mut steps)?;
+    Ok(resolve(alloc, &whole)?)
+}
+
+/// A fusion keeps the layers of the left part that it doesn't touch: those that grew from 3, or those from 1.
+pub fn keep_their_layers(alloc: Global) -> Result<(), Stopped> {
+    let line = Line::new(alloc, &WEIGHTS, &[4])?;
+    let mut shots = Vec::new(alloc);
+    shots.push(line.shot(alloc, &[1, 3, 5])?)?;
+    let job = Job::new(&line.graph, &line.plan, shots);
+    let row = fuse_units::<Brand>(alloc, &job, false, Blank::new(1))?;
+    let cuts = [
+        (2, [1].as_slice()),
+        (2, [1, 2].as_slice()),
+        (6, [4, 5].as_slice()),
+        (4, [5].as_slice()),
+    ];
+    Stopped::unless(is_row(&row, &[1, 2, 5], 14, &cuts), "a row of units solved from their first defects")?;
+    let row = fuse_units::<Brand>(alloc, &job, true, Blank::new(1))?;
+    let cuts = [
+        (2, [2, 3].as_slice()),
+        (2, [3].as_slice()),
+        (6, [4, 5].as_slice()),
+        (4, [5].as_slice()),
+    ];
+    Stopped::unless(is_row(&row, &[1, 2, 5], 14, &cuts), "a row of a unit solved from its last defect")
+}
+
+/// The row of the defects at 1 and 3 with the seam at 2, or without a plan.
+fn row_of_pair<R: Threads + Wait + Sync>(
+    rt: &R,
+    alloc: Global,
+    line: &Line,
+    plan: &Plan,
+    workers: u32,
+) -> Result<Vec<Row>, Stopped> {
+    let mut parts = components(alloc, &line.graph)?;
+    let mut shots: Vec<Shot> = Vec::new(alloc);
+    shots.push(line.shot(alloc, &[1, 3])?)?;
+    let window = decode_window(rt, alloc, &line.graph, plan, &mut parts, &shots, workers, &OpenGate)?;
+    Ok(window.rows)
+}
+
+/// The root's row has the cuts of both units, each of which meets the seam; without a plan one defect alone grows.
+pub fn give_the_root_their_cuts<R: Threads + Wait + Sync>(rt: &R, alloc: Global) -> Result<(), Stopped> {
+    let line = Line::new(alloc, &[40, 2, 2, 40], &[2])?;
+    for workers in 1..3 {
+        let rows = row_of_pair(rt, alloc, &line, &line.plan, workers)?;
+        let cuts = [(2, [1].as_slice()), (2, [3].as_slice())];
+        Stopped::unless(rows.len() == 1 && is_row(&rows[0], &[1, 2], 4, &cuts), "the cuts of two units")?;
+    }
+    let rows = row_of_pair(rt, alloc, &line, &Plan::single(alloc, &line.graph)?, 1)?;
+    let cuts = [(2, [1].as_slice()), (2, [1, 2].as_slice())];
+    Stopped::unless(rows.len() == 1 && is_row(&rows[0], &[1, 2], 4, &cuts), "the cuts without a plan")
+}
+
+/// The hands of the product, which look at each item that they have solved.
+#[derive(Drop)]
+struct Looking<'a> {
+    job: &'a Job<'a>,
+    solver: Solver<'a>,
+    /// Parts with all their defects matched, and of their own items.
+    parts: AtomicU64,
+    /// Items of roots without a part.
+    rows: AtomicU64,
+    others: AtomicU64,
+}
+
+impl<'a> Looking<'a> {
+    fn new(job: &'a Job<'a>) -> Looking<'a> {
+        Looking {
+            job,
+            solver: Solver::new(job),
+            parts: AtomicU64::new(0),
+            rows: AtomicU64::new(0),
+            others: AtomicU64::new(0),
+        }
+    }
+
+    fn look_at(&self, solved: &Solved<'a>, slot: u32, node: u32) {
+        let count = match solved.part() {
+            Some(half) => {
+                if half.slot() == slot && half.node() == node && self.matches_all(half) {
+                    &self.parts
+                } else {
+                    &self.others
+                }
+            }
+            None => {
+                if node == self.job.plan().root() {
+                    &self.rows
+                } else {
+                    &self.others
+                }
+            }
+        };
+        count.fetch_add(1, Ordering::SeqCst);
+    }
+
+    /// Whether each defect of the shot is matched exactly where it is the part's own.
+    fn matches_all(&self, half: &Half<'a>) -> bool {
+        let scope = NodeScope {
+            graph: self.job.graph(),
+            plan: self.job.plan(),
+            node: half.node(),
+        };
+        for v in self.job.shots()[half.slot() as usize].as_slice() {
+            if scope.is_real(*v) != is_matched(half, *v) {
+                return false;
+            }
+        }
+        half.matching().unmatched().is_empty()
+    }
+}
+
+/// Whether the defect is a node of the part, under an outer node that is matched.
+fn is_matched(half: &Half<'_>, defect: u32) -> bool {
+    let Some(leaf) = half.blossoms().leaf_of(defect) else {
+        return false;
+    };
+    let outer = half.blossoms().outer_of(leaf);
+    matches!(half.matching().standing(outer), Standing::Matched(_))
+}
+
+impl<'a> Hands<Solved<'a>, Tools> for Looking<'a> {
+    ghost job = { λ h. h.job.now };
+
+    fn unit(&self, alloc: Global, tools: &mut Tools, slot: u32, node: u32) -> Result<Solved<'a>, NoMemory> {
+        let solved = self.solver.unit(alloc, tools, slot, node)?;
+        self.look_at(&solved, slot, node);
+        Ok(solved)
+    }
+
+    fn fusion(
+        &self,
+        alloc: Global,
+        tools: &mut Tools,
+        slot: u32,
+        node: u32,
+        left: Solved<'a>,
+        right: Solved<'a>,
+    ) -> Result<Solved<'a>, NoMemory> {
+        let solved = self.solver.fusion(alloc, tools, slot, node, left, right)?;
+        self.look_at(&solved, slot, node);
+        Ok(solved)
+    }
+}
+
+/// Each posted part has all its defects matched, and is of its own item: three units and the fusion of two of them, for each
+/// of four shots, one of them without defects.
+pub fn have_all_defects_matched<R: Threads + Wait + Sync>(rt: &R, alloc: Global) -> Result<(), Stopped> {
+    let line = Line::new(alloc, &[2, 4, 2, 6, 2, 4, 8, 2, 4], &[3, 6])?;
+    let mut shots = Vec::new(alloc);
+    shots.push(line.shot(alloc, &[1, 2, 3, 4, 5, 6, 7, 8])?)?;
+    shots.push(line.shot(alloc, &[])?)?;
+    shots.push(line.shot(alloc, &[2, 5, 7])?)?;
+    shots.push(line.shot(alloc, &[3, 6])?)?;
+    let job = Job::new(&line.graph, &line.plan, shots);
+    for workers in 1..4 {
+        let hands = Looking::new(&job);
+        let mut tools = Vec::new(alloc);
+        for _ in 0..workers {
+            tools.push(Tools::new(alloc))?;
+        }
+        let worked = work_all(rt, alloc, &job, workers, &hands, &OpenGate, tools)?;
+        let seen = (
+            hands.parts.load(Ordering::SeqCst),
+            hands.rows.load(Ordering::SeqCst),
+            hands.others.load(Ordering::SeqCst),
+        );
+        Stopped::unless(seen == (16, 4, 0), "what is posted")?;
+        Stopped::unless(worked.made == 40, "how many events the workers count")?;
+    }
+    Ok(())
+}
