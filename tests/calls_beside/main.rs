@@ -1,4 +1,4 @@
-//! Calls that no run of the program makes, on samples whose answers are known: of links, blossoms, trees, parts, a board,
+//! Calls that no run of the program makes, on samples whose answers are known: of links, blossoms, trees, parts, boards,
 //! workers, windows, and files and sinks in memory. It prints what differs, and how many samples passed.
 
 #![tactic(auto)]
@@ -9,6 +9,7 @@ mod lines;
 mod nests;
 mod parts;
 mod sinks;
+mod slots;
 mod streams;
 mod stopped;
 mod walks;
@@ -32,6 +33,12 @@ fn main(rt: HostRuntime) -> io::Result<()> {
         ("one worker meets nobody", workers::meet_nobody_alone(&rt, alloc)),
         ("workers under a lock meet nobody", workers::meet_nobody_under_a_lock(&rt, alloc)),
         ("without memory no fusion is asked for", workers::ask_for_no_fusion(&rt, alloc)),
+        ("who gives the second child goes on", slots::fuse_where_the_second_child_is_given(alloc)),
+        ("an item that is left starves the board", slots::starve_where_a_unit_is_left(alloc)),
+        ("a plan of one unit has a root a slot", slots::give_the_units_of_many_slots(alloc)),
+        ("a board with no slots is over at once", slots::end_at_once_with_no_slots(alloc)),
+        ("the seats have the numbers 0 to 3", slots::number_each_seat(alloc)),
+        ("a history goes by slot, then node", slots::list_by_item(alloc)),
         ("the calling thread does each item once", workers::work_on_the_calling_thread(alloc)),
         ("fused parts keep their layers", parts::keep_their_layers(alloc)),
         ("parts give the root their cuts", parts::give_the_root_their_cuts(&rt, alloc)),

@@ -247,14 +247,14 @@ fn work_all_under_lock<'a, N: Board + Send + Sync, R: Threads + Wait + Sync>(
 
 /// A graph without vertices, its plan of two units and a fusion, and one shot without a defect.
 #[derive(Drop)]
-struct Pair {
-    graph: Graph,
-    plan: Plan,
-    shots: Vec<Shot>,
+pub struct Pair {
+    pub graph: Graph,
+    pub plan: Plan,
+    pub shots: Vec<Shot>,
 }
 
 impl Pair {
-    fn new(alloc: Global) -> Result<Pair, Stopped> {
+    pub fn new(alloc: Global) -> Result<Pair, Stopped> {
         let graph = Graph::build(alloc, 0, &[], &[])?;
         let mut units = Vec::new(alloc);
         units.push(Vec::new(alloc))?;

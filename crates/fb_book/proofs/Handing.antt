@@ -18,7 +18,7 @@ one_item n s m t k less below same = (
 )
 
 module _ {P : Type 0} (job_of : P → JobValue) (slot_of node_of : P → ℕ) (made_of : P → Option (List ℕ)) (job : JobValue) where
-  of_children : (s n left right : ℕ) (a b : P) → IsForest (kids_in job.plan.units job.plan.joins)
+  pub of_children : (s n left right : ℕ) (a b : P) → IsForest (kids_in job.plan.units job.plan.joins)
       → n < node_count job.plan → kids_in job.plan.units job.plan.joins (place_of job s n) ≡ Some (left, right)
       → IsPieceAt job_of slot_of node_of made_of job left a → IsPieceAt job_of slot_of node_of made_of job right b
       → AreOfChildren job_of slot_of node_of made_of job s n a b

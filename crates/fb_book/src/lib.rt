@@ -7,11 +7,11 @@ pub mod entries;
 mod items;
 pub mod laws;
 pub mod limits;
-mod moves;
+pub mod moves;
 mod parking;
 pub mod permit;
 mod ready;
-mod tables;
+pub mod tables;
 
 pub use book::{Book, Claim};
 pub use entries::{Entry, Kind, Status};

@@ -1,0 +1,17 @@
+pub mod Items
+pub mod Counting
+pub mod Hands
+pub mod Acts
+pub mod Steps
+pub mod Posting
+pub mod Ending
+pub mod Listing
+pub mod Layouts
+pub mod Holding
+pub mod Pieces
+pub mod Gathering
+pub mod Roots
+pub mod Taking
+pub mod Ran
+pub mod Numbers
+pub mod Seating

@@ -1,0 +1,18 @@
+//! A board whose workers claim and post without a lock.
+
+#![tactic(auto)]
+
+mod board;
+mod calls;
+mod ends;
+mod history;
+mod law;
+mod places;
+mod seats;
+mod ticket;
+mod views;
+
+pub use board::{After, Closed, SlotBook, Taken};
+pub use history::history_of;
+pub use seats::SlotSeat;
+pub use ticket::Ticket;
