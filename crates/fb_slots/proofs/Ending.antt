@@ -287,7 +287,8 @@ pub record KnowsAll (b : Layout) (v : Hand) : Type 0 where
 
 pub knows_all : (b : Layout) (v : Hand) {seats ends : ℕ} → v.seats ≡ seats → seats ≡ b.workers + 1
     → v.ends ≡ ends → 0 < ends
-    → ((k : ℕ) → in_hand as_taken b.nodes k v ≡ in_hand as_given b.nodes k v + in_hand as_left b.nodes k v)
+    → ((k : ℕ) → in_hand as_taken b.nodes k v ≡ in_hand as_given b.nodes k v + in_hand as_left
+    b.nodes k v)
     → KnowsAll b v
 knows_all b v same every ended positive closed =
     record { seats = same ∙ every; ended = omega (arith, ended, positive); closed = closed }

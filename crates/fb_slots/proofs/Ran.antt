@@ -17,7 +17,8 @@ use Rattle.fb_slots.proofs.Listing.{any_run}
 -- the listed entries are a run of the board's machine
 pub run_of : (job : JobValue) (workers : ℕ) → IsLayout (layout_of job workers) → (es : List Entry)
     → IsOrdered (layout_of job workers) es
-    → IsRun (course_of job (listing (node_count job.plan) (length job.shots * node_count job.plan) es))
+    → IsRun (course_of job (listing (node_count job.plan) (length job.shots * node_count job.plan)
+    es))
 run_of job workers is es o =
     let r = any_run (layout_of job workers) is es o in
     r.replayed ∙ ap (λ st. Some (unwrap_or st [])) (sym r.replayed)

@@ -80,7 +80,8 @@ returns-clause-roots g c roots e =
     job r.items) same
     (root_pieces g.P.Piece.job_of g.P.Piece.slot_of g.P.Piece.node_of g.P.Piece.made_of job items
     c.take_roots.new.roots.items at
-    (λ s inside. root_at IsPiece b c.keeps.ensures c.join_all-me.result.id c.join_all-me.result.me.0 _
+    (λ s inside. root_at IsPiece b c.keeps.ensures c.join_all-me.result.id c.join_all-me.result.me.0
+    _
     _
     c.close_with-closed.ensures.values.2 all c.word.result c.word.ensures c.if-word-ne0.false
     (s * node_count job.plan + (node_count job.plan - 1))

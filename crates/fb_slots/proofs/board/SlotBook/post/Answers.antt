@@ -49,7 +49,8 @@ returns-clause-pieces g c next a b e =
     (λ i. c.ticket.ensures.slot i * node_count job.plan + c.ticket.ensures.node i)
     ∙ div-add-mod' c.counted-counted.result (node_count job.plan) in
     let both = found IsPiece layout c.place-place.result c.counted-counted.result
-    c.seat.inside.holder.me.0 c.give.new.me.me (c.give.ensures.fusion c.if-give-ne-ONE_CHILD_GIVEN.false)
+    c.seat.inside.holder.me.0 c.give.new.me.me
+    (c.give.ensures.fusion c.if-give-ne-ONE_CHILD_GIVEN.false)
     c.in-Some.left c.in-Some.right c.take_out-first.result c.take_out-second.result
     c.take_out-first.new.me.me kids c.take_out-first.ensures.piece
     (ap (λ m. m.1) c.take_out-first.ensures.view) c.take_out-second.ensures.piece in
