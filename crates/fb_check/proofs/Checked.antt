@@ -1,20 +1,21 @@
 -- How a check of rows ends.
-use Rattle.std.proofs.Common.{◌≡◌, ℕ, ◌==◌, ◌&&◌, inl, inr, Bool, true, false, if◌then◌else◌, ◌≢◌, ◌<◌, List, [], length, Option, IfSome, refl, sym, ap, subst, ◌∙◌, append-nil, arith}
+use Rattle.std.proofs.Common.{◌≡◌, ℕ, ◌==◌, ◌&&◌, inl, inr, Bool, true, false, if◌then◌else◌, ◌≢◌, ◌<◌, List, [], ◌++◌, length, Option, IfSome, refl, sym, ap, subst, ◌∙◌, append-nil, arith}
 use Rattle.std.proofs.KnownBytes.{Appends-nil, Appends-trans}
 use Rattle.fb_graph.specs.Limits.{DecodingGraph, ShotValue}
 use Rattle.fb_graph.specs.declared.parts.Row.{Row}
-use Rattle.fb_ports.specs.Causes.{Appends, AppendsPrefix, CountsFault}
+use Rattle.fb_ports.specs.Causes.{Appends, AppendsPrefix, CountsFault, Rose}
 use Rattle.fb_ports.proofs.Onward.{prefix_second}
 use Rattle.fb_shots.specs.Shots.{at_end}
 use Rattle.fb_shots.specs.declared.answer.Format.{Format}
 use Rattle.fb_shots.specs.Streams.{Stream, fresh}
 use Rattle.fb_check.specs.CheckEndings.{check_account, check_source}
-use Rattle.fb_check.specs.TextEnds.{FirstOf, TextEnds, WritesPrefix, WritesWhole}
-use Rattle.fb_check.specs.Checks.{bad_count, check_cause, check_prefix, check_head, check_last, verdict_lines}
+use Rattle.fb_check.specs.TextEnds.{AppendsAfter, EndAfter, FirstOf, Source, TextEnds, WritesPart, WritesWhole}
+use Rattle.fb_check.specs.Checks.{bad_count, check_cause, check_head, check_last, verdict_lines}
 use Rattle.fb_check.specs.Ends.{CountsReadFault, IsReadToItsEnd, MayFollowReadFault}
 use Rattle.fb_check.specs.InternalJudges.{EndsCheck, JudgesAll, JudgesFirst, JudgesInto}
 use Rattle.fb_inputs.specs.Judging.{HasFirstShots, HasShots, Named, most_shots}
 use Rattle.fb_inputs.specs.InternalGathers.{FirstFrom, Gathers, GathersFrom, IsOpened}
+use Rattle.fb_inputs.specs.Moments.{Moment}
 use Rattle.fb_words.specs.Words.{Checking}
 use Rattle.fb_check.specs.declared.checking.Judged.{Judged}
 use Rattle.fb_endings.specs.declared.ending.Cause.{Cause}
@@ -167,32 +168,48 @@ check_counted ended lines shots bad old new cause ends before now counts = (
   check_reported ended lines shots bad old new cause ends before now counts.2,
 )
 
-module _ (named : Named) (request : Checking) (g : DecodingGraph) (rows : List Row) where
-  pub checks_first : (old mid new : Option (List ℕ)) → Appends old mid check_head
-      → JudgesFirst (FirstOf named request.shots request.format g) g rows mid new → WritesPrefix (check_account g rows) named (check_source request g) old new
-  checks_first old mid new head first = record {
+-- the head, and then a prefix of a text
+pub appends_after : (head : List ℕ) (old mid new : Option (List ℕ)) (text : List ℕ) → Appends old mid head → AppendsPrefix mid new text
+    → AppendsAfter head old new text
+appends_after head old mid new text whole (prefix, rest, parts, part) = (prefix, rest, parts, Appends-trans old mid new head prefix whole part)
+
+-- how the shots of a file end, by what was gathered of it
+pub end_after : (source : Source) (before after : Moment) (shots : List ShotValue) (ended : ShotsEnd)
+    → Gathers before.named source.name source.format source.graph after.left shots ended
+    → (ended ≡ end.ReadFault → Rose before.faults after.faults) → EndAfter source before after shots
+end_after source before after shots end.End held rose = inl held
+end_after source before after shots (end.Refused fault) held rose = inr (inl (fault.kind, held.0))
+end_after source before after shots end.ReadFault held rose = inr (inr (rose refl, held))
+
+module _ (request : Checking) (g : DecodingGraph) (rows : List Row) (before after : Moment) where
+  pub checks_first : (mid : Option (List ℕ)) → Appends before.written mid check_head
+      → JudgesFirst (FirstOf before.named request.shots request.format g) g rows mid after.written
+      → WritesPart (check_account g rows) (check_source request g) before after
+  checks_first mid head first = record {
     shots = first.shots;
     input = first.input;
     answers = first.verdicts;
     right = first.answers;
-    written = inl (prefix_second old mid new check_head (verdict_lines 0 first.verdicts) head first.written);
+    windows = inl tt;
+    written = inl (appends_after check_head before.written mid after.written (verdict_lines 0 first.verdicts) head first.written);
   }
 
-  checks_by : (left old new : Option (List ℕ)) (lines shots bad : ℕ) (cause : Cause) → cause ≡ check_cause lines shots bad
-      → WritesWhole (check_account g rows) named (check_source request g) old new cause → TextEnds (check_account g rows) named (check_source request g) left old new cause
-  checks_by left old new lines shots bad cause e wrote = by_both (bad == 0 && lines == shots) e
+  checks_by : (lines shots bad : ℕ) (cause : Cause) → cause ≡ check_cause lines shots bad
+      → WritesWhole (check_account g rows) (check_source request g) before after cause
+      → TextEnds (check_account g rows) (check_source request g) before after cause
+  checks_by lines shots bad cause e wrote = by_both (bad == 0 && lines == shots) e
     where
-      by_both : (good : Bool) → cause ≡ (if good then Done else Bad bad) → TextEnds (check_account g rows) named (check_source request g) left old new cause
+      by_both : (good : Bool) → cause ≡ (if good then Done else Bad bad) → TextEnds (check_account g rows) (check_source request g) before after cause
       by_both true is = rw is (rw is at wrote)
       by_both false is = rw is (rw is at wrote)
 
-  pub checks_on : (left old mid last new : Option (List ℕ)) (j : Judged) (lines : ℕ) (cause : Cause) → lines ≡ length rows → Appends old mid check_head
-      → JudgesAll (λ shots. Gathers named request.shots request.format g left shots j.end) g rows mid last j
-      → EndsCheck j.end lines j.shots j.bad last new cause → TextEnds (check_account g rows) named (check_source request g) left old new cause
-  checks_on left old mid last new j lines cause many head all ends = go j.end all.input ends
+  pub checks_on : (mid last : Option (List ℕ)) (j : Judged) (lines : ℕ) (cause : Cause) → lines ≡ length rows → Appends before.written mid check_head
+      → JudgesAll (λ shots. Gathers before.named request.shots request.format g after.left shots j.end) g rows mid last j
+      → EndsCheck j.end lines j.shots j.bad last after.written cause → TextEnds (check_account g rows) (check_source request g) before after cause
+  checks_on mid last j lines cause many head all ends = go j.end all.input ends
     where
-      prefix : Appends old last (check_prefix all.verdicts)
-      prefix = Appends-trans old mid last check_head (verdict_lines 0 all.verdicts) head all.written
+      prefix : Appends before.written last (check_head ++ verdict_lines 0 all.verdicts)
+      prefix = Appends-trans before.written mid last check_head (verdict_lines 0 all.verdicts) head all.written
 
       same_line : check_last lines j.shots j.bad ≡ check_last (length rows) (length all.shots) (bad_count all.verdicts)
       same_line = ap (λ (n : ℕ). check_last n j.shots j.bad) many ∙ ap (λ (n : ℕ). check_last (length rows) n j.bad) all.many
@@ -205,22 +222,28 @@ module _ (named : Named) (request : Checking) (g : DecodingGraph) (rows : List R
       are_first : (text : List ℕ) → HasShots request.format g all.shots at_end text → HasFirstShots request.format g all.shots text
       are_first text e = ([], ap (λ r. r.shots) e ∙ sym (append-nil all.shots))
 
-      go : (ended : ShotsEnd) → Gathers named request.shots request.format g left all.shots ended → EndsCheck ended lines j.shots j.bad last new cause
-          → TextEnds (check_account g rows) named (check_source request g) left old new cause
-      go end.End held (inl (whole, is)) = checks_by left old new lines j.shots j.bad cause is (record {
+      go : (ended : ShotsEnd) → Gathers before.named request.shots request.format g after.left all.shots ended
+          → EndsCheck ended lines j.shots j.bad last after.written cause → TextEnds (check_account g rows) (check_source request g) before after cause
+      go end.End held (inl (whole, is)) = checks_by lines j.shots j.bad cause is (record {
         shots = all.shots;
         input = held;
         answers = all.verdicts;
         right = all.answers;
-        written = Appends-trans old last new (check_prefix all.verdicts) _ prefix (subst (Appends last new) same_line whole);
+        written = Appends-trans before.written last after.written (check_head ++ verdict_lines 0 all.verdicts) _ prefix
+            (subst (Appends last after.written) same_line whole);
         ends = is ∙ same_cause;
       })
       go end.End held (inr (part, is)) = rw is (record {
         shots = all.shots;
-        input = inr (holds_more named request.shots _ _ are_first held);
+        input = inr (holds_more before.named request.shots _ _ are_first held);
         answers = all.verdicts;
         right = all.answers;
-        written = inr (held, prefix_second old last new (check_prefix all.verdicts) _ prefix (subst (AppendsPrefix last new) same_line part));
+        windows = inl tt;
+        written = inr (
+          held,
+          appends_after check_head before.written mid after.written (verdict_lines 0 all.verdicts ++ _) head
+              (prefix_second mid last after.written (verdict_lines 0 all.verdicts) _ all.written (subst (AppendsPrefix last after.written) same_line part)),
+        );
       })
       go (end.Refused fault) held (same, is) = rw is (record {
         shots = all.shots;

@@ -1,12 +1,12 @@
 -- What each end of a check says of what was written and read.
-use Rattle.std.specs.Prelude.{ℕ, ◌≡◌, ◌⊎◌, List, [], ◌∷◌, length, Ok, Err}
+use Rattle.std.specs.Prelude.{ℕ, ◌≡◌, ◌⊎◌, List, [], ◌∷◌, length, Ok, Err, ⊤}
 use Rattle.fb_graph.specs.Limits.{DecodingGraph}
 use Rattle.fb_graph.specs.declared.parts.Row.{Row}
 use Rattle.fb_verify.specs.Reports.{report_of_text}
 use Rattle.fb_verify.specs.declared.report_faults.ReportFault.{ReportFault}
 use Rattle.fb_verify.specs.declared.reports.Report.{Report}
 use Rattle.fb_verify.specs.declared.verdicts.Verdict.{Verdict}
-use Rattle.fb_check.specs.Checks.{AreVerdicts, bad_count, check_cause, check_prefix, check_head, check_text}
+use Rattle.fb_check.specs.Checks.{AreVerdicts, bad_count, check_cause, check_head, check_last, verdict_lines}
 use Rattle.fb_check.specs.Ends.{EndsAtFile, EndsInText, IsGraphRefusal}
 use Rattle.fb_check.specs.TextEnds.{Account, Source, TextEnds}
 use Rattle.fb_inputs.specs.Judging.{Asks, Holds, IsGraphText, Named}
@@ -29,9 +29,10 @@ IsNoReport fault text = report_of_text text ≡ Err fault
 abbrev pub check_account : DecodingGraph → List Row → Account Verdict
 check_account g rows = record {
   Answers = λ shots verdicts. AreVerdicts g shots rows verdicts;
+  FillWindows = λ shots verdicts. ⊤;
   head = check_head;
-  prefix = check_prefix;
-  whole = λ shots verdicts. check_text (length rows) (length shots) verdicts;
+  body = verdict_lines 0;
+  last = λ shots verdicts. check_last (length rows) (length shots) (bad_count verdicts);
   cause = λ shots verdicts. check_cause (length rows) (length shots) (bad_count verdicts);
 }
 
@@ -43,7 +44,7 @@ abbrev pub ChecksAtShots : Checking → DecodingGraph → List Row → Moment �
 ChecksAtShots request g rows before after cause =
     Asks before.asked after.asked (request.shots ∷ [])
     × (cause ≡ NoMemory → after.faults ≡ before.faults)
-    × TextEnds (check_account g rows) before.named (check_source request g) after.left before.written after.written cause
+    × TextEnds (check_account g rows) (check_source request g) before after cause
 
 -- the end of a check of rows for a graph: before the shots are asked for, or after
 abbrev pub ChecksOn : Checking → DecodingGraph → List Row → Moment → Moment → Cause → Type 0

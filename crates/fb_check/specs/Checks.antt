@@ -29,14 +29,6 @@ unfoldable pub check_last : ℕ → ℕ → ℕ → List ℕ
 check_last rows shots bad =
     line (codes "rows") (decimal rows ∷ codes "shots" ∷ decimal shots ∷ codes "bad" ∷ decimal bad ∷ [])
 
--- the head and the lines of the shots, without a last line
-abbrev pub check_prefix : List Verdict → List ℕ
-check_prefix verdicts = check_head ++ verdict_lines 0 verdicts
-
--- the whole text of a check of `rows` rows by `shots` shots
-abbrev pub check_text : ℕ → ℕ → List Verdict → List ℕ
-check_text rows shots verdicts = check_prefix verdicts ++ check_last rows shots (bad_count verdicts)
-
 -- how a check of `rows` rows by `shots` shots ends
 abbrev pub check_cause : ℕ → ℕ → ℕ → Cause
 check_cause rows shots bad = if bad == 0 && rows == shots then Done else Bad bad

@@ -1,6 +1,7 @@
 -- The shots that were taken from a file so far, and how they end.
 use Rattle.std.specs.Prelude.{ℕ, ◌≡◌, List, length, Option, Some, None, IfSome, IsSome, ⊤}
 use Rattle.fb_graph.specs.Limits.{DecodingGraph, ShotValue}
+use Rattle.fb_ports.specs.Causes.{Rose}
 use Rattle.fb_shots.specs.Shots.{at_end, refused}
 use Rattle.fb_shots.specs.declared.answer.Format.{Format}
 use Rattle.fb_inputs.specs.Judging.{HasFirstShots, HasShots, Holds, IsReadInPart, Named}
@@ -17,6 +18,12 @@ GathersFrom bytes format g left shots end.End = IfSome bytes (HasShots format g 
 GathersFrom bytes format g left shots (end.Refused fault) =
     IfSome bytes (HasShots format g shots (refused fault.kind)) × (fault.shot ≡ length shots)
 GathersFrom bytes format g left shots end.ReadFault = IfSome bytes (IsReadInPart format g left shots)
+
+-- The shots of what was left of a file end after these, if it is known, and the count of faults rose if a read failed.
+pub record EndsFrom (bytes : Option (List ℕ)) (format : Format) (g : DecodingGraph) (left : Option (List ℕ)) (before now : ℕ) (shots : List ShotValue) : Type 0 where
+  pub ended : ShotsEnd
+  pub gathers : GathersFrom bytes format g left shots ended
+  pub rises : ended ≡ end.ReadFault → Rose before now
 
 -- the same of the file of a name
 abbrev pub Gathers : Named → List ℕ → Format → DecodingGraph → Option (List ℕ) → List ShotValue → ShotsEnd → Type 0

@@ -131,17 +131,20 @@ no_events false first history none = refl
 no_events true first history none = rw (none refl)
 
 module _ (request : Decoding) (g : DecodingGraph) (t : PlanTree) where
-  no_batch_rows : (b : Batch) → AnswersBatch request g t [] b → b.rows ≡ []
-  no_batch_rows b answers = no_rows g b.rows answers.rows
-
-  no_batch_text : (first : ℕ) (b : Batch) → AnswersBatch request g t [] b → batch_text request.trace first b ≡ []
-  no_batch_text first b answers =
-      let none = no_batch_rows b answers in
+  -- a batch without rows has no text
+  pub bare-batch : (first : ℕ) (shots : List ShotValue) (b : Batch) → AnswersBatch request g t shots b → b.rows ≡ [] → batch_text request.trace first b ≡ []
+  bare-batch first shots b answers none =
       ap (λ rows. rows_text first rows ++ events_text request.trace first b.history) none
       ∙ no_events request.trace first b.history (λ traced. no_entry b.history (history_of traced).within)
     where
       history_of : request.trace ≡ true → IsHistoryOf t request.workers [] b.history
-      history_of traced = subst (λ rows. IsHistoryOf t request.workers rows b.history) (no_batch_rows b answers) (answers.history traced)
+      history_of traced = subst (λ rows. IsHistoryOf t request.workers rows b.history) none (answers.history traced)
+
+  no_batch_rows : (b : Batch) → AnswersBatch request g t [] b → b.rows ≡ []
+  no_batch_rows b answers = no_rows g b.rows answers.rows
+
+  no_batch_text : (first : ℕ) (b : Batch) → AnswersBatch request g t [] b → batch_text request.trace first b ≡ []
+  no_batch_text first b answers = bare-batch first [] b answers (no_batch_rows b answers)
 
   -- ---- the batches of shots
 

@@ -1,5 +1,5 @@
 -- What has been decoded and written of a stream of shots.
-use Rattle.std.proofs.Common.{◌≡◌, ℕ, suc, ◌+◌, ◌*◌, ◌<◌, ◌≤◌, ◌^◌, true, List, [], ◌++◌, length, Option, None, Some, refl, sym, ap, subst, ◌∙◌, arith, append-nil, length-append}
+use Rattle.std.proofs.Common.{◌≡◌, ℕ, suc, ◌+◌, ◌*◌, ◌<◌, ◌≤◌, ◌^◌, ◌⊎◌, inl, inr, true, List, [], ◌++◌, length, Option, None, Some, refl, sym, ap, subst, ◌∙◌, arith, append-nil, length-append}
 use Rattle.std.proofs.KnownBytes.{Appends-nil, Appends-trans}
 use Rattle.std.proofs.Math.Nat.{mul-suc}
 use Rattle.std.proofs.lemmas.Slice.Zip.{AllZip-long}
@@ -8,15 +8,15 @@ use Rattle.fb_crew.specs.Windows.{IsShotRow}
 use Rattle.fb_graph.specs.Limits.{DecodingGraph, ShotValue}
 use Rattle.fb_inputs.proofs.Gathered.{ended_read_out, first_of_none, gathered_so, given_few, given_first, gives_both, gives_none}
 use Rattle.fb_inputs.specs.Judging.{most_shots}
-use Rattle.fb_inputs.specs.InternalGathers.{FirstFrom, GathersFrom}
+use Rattle.fb_inputs.specs.InternalGathers.{EndsFrom, FirstFrom, GathersFrom}
 use Rattle.fb_inputs.specs.Taking.{EndsSo, GivesShots}
 use Rattle.fb_inputs.specs.declared.taking.ShotsEnd.{ShotsEnd}
 use Rattle.fb_inputs.specs.declared.taking.ShotsEnd.TheVariants as end
 use Rattle.fb_plan.specs.Plans.{PlanTree}
 use Rattle.fb_ports.proofs.Onward.{prefix_second}
-use Rattle.fb_ports.specs.Causes.{Appends, AppendsPrefix}
+use Rattle.fb_ports.specs.Causes.{Appends, AppendsPrefix, Rose}
 use Rattle.fb_run.proofs.Batched.{AddsBatch, adds_batch, counted_rows, counts_added, rows_added, rows_length, slots_within}
-use Rattle.fb_run.specs.Decoding.{AnswersBatch, AreBatches, Batch, all_rows, batch_text, batches_text}
+use Rattle.fb_run.specs.Decoding.{AnswersBatch, AreBatches, Batch, HaveWholeWindows, all_rows, batch_text, batches_text}
 use Rattle.fb_run.specs.InternalBatches.{AddsCounts, TakesBatch}
 use Rattle.fb_run.specs.Rows.{counts_of}
 use Rattle.fb_run.specs.InternalWrites.{WritesBatches, WritesFirstBatches, counts_in}
@@ -30,10 +30,16 @@ mul-more : (w n m : ℕ) → m ≡ n + 1 → w * m ≡ w * n + w
 mul-more w n m e = let next : m ≡ suc n = omega (arith, e) in ap (λ k. w * k) next ∙ mul-suc w n
 
 -- no shot was taken
-pub none_decoded : (request : Decoding) (t : PlanTree) (left : Option (List ℕ)) (format : Format) (g : DecodingGraph) (out : Option (List ℕ))
-    → WritesFirstBatches (FirstFrom left format g) request g t out out
-none_decoded request t left format g out =
-    record { shots = []; input = first_of_none left format g; batches = []; answers = refl; written = ([], [], refl, Appends-nil out) }
+pub none_decoded : (Ends : List ShotValue → Type 0) (request : Decoding) (t : PlanTree) (left : Option (List ℕ)) (format : Format) (g : DecodingGraph) (out : Option (List ℕ))
+    → WritesFirstBatches (FirstFrom left format g) Ends request g t out out
+none_decoded Ends request t left format g out = record {
+  shots = [];
+  input = first_of_none left format g;
+  batches = [];
+  answers = refl;
+  windows = inl (omega arith);
+  written = ([], [], refl, Appends-nil out);
+}
 
 module _ (request : Decoding) (t : PlanTree) (start : Stream) (before out : Option (List ℕ)) where
   -- The batches of the shots that a stream has given were written, and their rows are counted.
@@ -70,12 +76,13 @@ module _ (request : Decoding) (t : PlanTree) (start : Stream) (before out : Opti
     tally_rows : tally.best + tally.odd ≡ length (all_rows so_far.batches)
     tally_rows = counted_rows tally (all_rows so_far.batches) so_far.counts
 
-    pub so_far_first : WritesFirstBatches (FirstFrom before start.format start.graph) request start.graph t out new
-    so_far_first = record {
+    pub so_far_first : (Ends : List ShotValue → Type 0) → WritesFirstBatches (FirstFrom before start.format start.graph) Ends request start.graph t out new
+    so_far_first Ends = record {
       shots = so_far.shots;
       input = given_first start now before after so_far.shots is_fresh so_far.gives;
       batches = so_far.batches;
       answers = so_far.answers;
+      windows = inl decoding.full;
       written = (batches_text request.trace 0 so_far.batches, [], sym (append-nil (batches_text request.trace 0 so_far.batches)), so_far.written);
     }
 
@@ -111,14 +118,43 @@ module _ (request : Decoding) (t : PlanTree) (start : Stream) (before out : Opti
           ≡ batches_text request.trace 0 so_far.batches ++ batch_text request.trace (tally.best + tally.odd) b
       text = adds.text ∙ ap (λ n. batches_text request.trace 0 so_far.batches ++ batch_text request.trace n b) (sym tally_rows)
 
+      ends_at : (ended : Option ShotsEnd) → ending ≡ ended → EndsSo taken.takes.middle last taken.takes.between rest ended
+      ends_at ended is = subst (λ (e : Option ShotsEnd). EndsSo taken.takes.middle last taken.takes.between rest e) is taken.takes.ends
+
+      -- the shots of one more window
+      fills_more : length taken.shots ≡ request.window → 1 ≤ request.window → HaveWholeWindows request shots adds.batches
+      fills_more full some = omega (
+        arith,
+        length-append so_far.shots taken.shots,
+        decoding.full,
+        full,
+        mul-more request.window (length so_far.batches) (length adds.batches) (adds.grows (λ none. omega (arith, ap length none, full, some))),
+      )
+
+      -- the shots fill windows, or end after the last of these
+      fills_or_ends : 1 ≤ request.window → (faults risen : ℕ) → (ending ≡ Some end.ReadFault → Rose faults risen)
+          → HaveWholeWindows request shots adds.batches ⊎ EndsFrom before start.format start.graph rest faults risen shots
+      fills_or_ends some faults risen rises = by_ending ending refl
+        where
+          by_ending : (e : Option ShotsEnd) → ending ≡ e
+              → HaveWholeWindows request shots adds.batches ⊎ EndsFrom before start.format start.graph rest faults risen shots
+          by_ending None is = inl (fills_more (taken.takes.full is) some)
+          by_ending (Some ended) is = inr (record {
+            ended = ended;
+            gathers = gathered_so start taken.takes.middle before taken.takes.between shots is_fresh gives last rest ended (ends_at (Some ended) is);
+            rises = λ failed. rises (is ∙ ap Some failed);
+          })
+
       module _ (newer : Option (List ℕ)) where
-        pub more_first : AppendsPrefix new newer (batch_text request.trace (tally.best + tally.odd) b)
-            → WritesFirstBatches (FirstFrom before start.format start.graph) request start.graph t out newer
-        more_first part = record {
+        pub more_first : 1 ≤ request.window → (faults risen : ℕ) → (ending ≡ Some end.ReadFault → Rose faults risen)
+            → AppendsPrefix new newer (batch_text request.trace (tally.best + tally.odd) b)
+            → WritesFirstBatches (FirstFrom before start.format start.graph) (EndsFrom before start.format start.graph rest faults risen) request start.graph t out newer
+        more_first some faults risen rises part = record {
           shots = shots;
           input = given_first start taken.takes.middle before taken.takes.between shots is_fresh gives;
           batches = adds.batches;
           answers = adds.answers;
+          windows = fills_or_ends some faults risen rises;
           written = subst (AppendsPrefix out newer) (sym text)
               (prefix_second out new newer (batches_text request.trace 0 so_far.batches) (batch_text request.trace (tally.best + tally.odd) b) so_far.written part);
         }
@@ -137,19 +173,7 @@ module _ (request : Decoding) (t : PlanTree) (start : Stream) (before out : Opti
 
           decoding_full : length taken.shots ≡ request.window → 1 ≤ request.window → IsDecoding taken.takes.middle taken.takes.between newer counts
           unfolding more_decoded
-          decoding_full full some = record {
-            so_far = more_decoded;
-            full = omega (
-              arith,
-              length-append so_far.shots taken.shots,
-              decoding.full,
-              full,
-              mul-more request.window (length so_far.batches) (length adds.batches) (adds.grows (λ none. omega (arith, ap length none, full, some))),
-            );
-          }
-
-          ends_at : (ended : Option ShotsEnd) → ending ≡ ended → EndsSo taken.takes.middle last taken.takes.between rest ended
-          ends_at ended is = subst (λ (e : Option ShotsEnd). EndsSo taken.takes.middle last taken.takes.between rest e) is taken.takes.ends
+          decoding_full full some = record { so_far = more_decoded; full = fills_more full some }
 
           pub decoding_more : ending ≡ None → 1 ≤ request.window → IsDecoding last rest newer counts
           decoding_more none some =

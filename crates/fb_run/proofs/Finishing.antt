@@ -1,5 +1,5 @@
 -- How the report of a graph's shots ends.
-use Rattle.std.proofs.Common.{◌≡◌, ℕ, ◌+◌, ◌==◌, ◌≢◌, ◌<◌, inl, inr, Bool, true, false, if◌then◌else◌, List, [], length, Option, refl, sym, ap, subst, ◌∙◌, append-nil, arith}
+use Rattle.std.proofs.Common.{◌≡◌, ℕ, ◌+◌, ◌==◌, ◌≢◌, ◌<◌, ◌⊎◌, inl, inr, Bool, true, false, if◌then◌else◌, List, [], ◌++◌, length, Option, refl, sym, ap, subst, ◌∙◌, append-nil, arith}
 use Rattle.std.proofs.KnownBytes.{Appends-trans}
 use Rattle.fb_graph.specs.Limits.{DecodingGraph, ShotValue}
 use Rattle.fb_plan.specs.Plans.{PlanTree}
@@ -8,13 +8,15 @@ use Rattle.fb_ports.proofs.Onward.{prefix_second}
 use Rattle.fb_report.specs.Texts.{head_text}
 use Rattle.fb_shots.specs.Shots.{Ending, at_end}
 use Rattle.fb_check.specs.Ends.{CountsReadFault, IsReadToItsEnd, MayFollowReadFault}
-use Rattle.fb_check.specs.TextEnds.{TextEnds, WritesPrefix, WritesWhole}
+use Rattle.fb_check.specs.TextEnds.{EndAfter, TextEnds, WritesPart, WritesWhole}
+use Rattle.fb_check.proofs.Checked.{appends_after, end_after}
+use Rattle.fb_inputs.specs.Moments.{Moment}
 use Rattle.fb_inputs.proofs.Gathered.{gathers_opened, holds_opened}
 use Rattle.fb_inputs.proofs.Lists.{holds_more}
-use Rattle.fb_inputs.specs.Judging.{HasFirstShots, HasShots, Named}
-use Rattle.fb_inputs.specs.InternalGathers.{FirstFrom, Gathers, GathersFrom, IsOpened}
+use Rattle.fb_inputs.specs.Judging.{HasFirstShots, HasShots}
+use Rattle.fb_inputs.specs.InternalGathers.{EndsFrom, FirstFrom, Gathers, GathersFrom, IsOpened}
 use Rattle.fb_run.proofs.Batched.{counted_rows}
-use Rattle.fb_run.specs.Decoding.{all_rows, batches_text, cause_of, last_line, report_prefix}
+use Rattle.fb_run.specs.Decoding.{HaveWholeWindows, all_rows, batches_text, cause_of, last_line, last_line_of}
 use Rattle.fb_run.specs.Endings.{decode_account, decode_source}
 use Rattle.fb_run.specs.Rows.{Counts, counts_of}
 use Rattle.fb_run.specs.InternalWrites.{EndsReport, WritesBatches, WritesFirstBatches, counts_in}
@@ -59,59 +61,75 @@ report_counted t ended rows counts old new cause ends before now faults = (
   report_reported t ended rows counts old new cause ends before now faults.2,
 )
 
-module _ (named : Named) (request : Decoding) (g : DecodingGraph) (t : PlanTree) where
+module _ (request : Decoding) (g : DecodingGraph) (t : PlanTree) (before after : Moment) where
   are_first : (shots : List ShotValue) (ending : Ending) (text : List ℕ) → HasShots request.format g shots ending text → HasFirstShots request.format g shots text
   are_first shots ending text e = ([], ap (λ r. r.shots) e ∙ sym (append-nil shots))
 
   -- a fault while the rows are written
-  pub prefix_of_batches : (left old mid new : Option (List ℕ)) → IsOpened named request.shots left → Appends old mid head_text
-      → WritesFirstBatches (FirstFrom left request.format g) request g t mid new → WritesPrefix (decode_account request g t) named (decode_source request g) old new
-  prefix_of_batches left old mid new opened head wrote = record {
+  pub prefix_of_batches : (left mid : Option (List ℕ)) → IsOpened before.named request.shots left → Appends before.written mid head_text
+      → WritesFirstBatches (FirstFrom left request.format g) (EndsFrom left request.format g after.left before.faults after.faults) request g t mid after.written
+      → WritesPart (decode_account request g t) (decode_source request g) before after
+  prefix_of_batches left mid opened head wrote = record {
     shots = wrote.shots;
-    input = inr (holds_opened named request.shots left (HasFirstShots request.format g wrote.shots) opened wrote.input);
+    input = inr (holds_opened before.named request.shots left (HasFirstShots request.format g wrote.shots) opened wrote.input);
     answers = wrote.batches;
     right = wrote.answers;
-    written = inl (prefix_second old mid new head_text (batches_text request.trace 0 wrote.batches) head wrote.written);
+    windows = windows wrote.windows;
+    written = inl (appends_after head_text before.written mid after.written (batches_text request.trace 0 wrote.batches) head wrote.written);
   }
+    where
+      windows : HaveWholeWindows request wrote.shots wrote.batches ⊎ EndsFrom left request.format g after.left before.faults after.faults wrote.shots
+          → HaveWholeWindows request wrote.shots wrote.batches ⊎ EndAfter (decode_source request g) before after wrote.shots
+      windows (inl full) = inl full
+      windows (inr ends) = inr (end_after (decode_source request g) before after wrote.shots ends.ended
+          (gathers_opened before.named request.shots left request.format g after.left wrote.shots ends.ended opened ends.gathers) ends.rises)
 
   -- by a decode of all shots
-  ends_by : (left old new : Option (List ℕ)) (counts : Counts) (cause : Cause) → cause ≡ cause_of counts → WritesWhole (decode_account request g t) named (decode_source request g) old new cause
-      → TextEnds (decode_account request g t) named (decode_source request g) left old new cause
-  ends_by left old new counts cause e wrote = by_odd (counts.odd == 0) e
+  ends_by : (counts : Counts) (cause : Cause) → cause ≡ cause_of counts → WritesWhole (decode_account request g t) (decode_source request g) before after cause
+      → TextEnds (decode_account request g t) (decode_source request g) before after cause
+  ends_by counts cause e wrote = by_odd (counts.odd == 0) e
     where
-      by_odd : (no_odd : Bool) → cause ≡ (if no_odd then Done else Odd) → TextEnds (decode_account request g t) named (decode_source request g) left old new cause
+      by_odd : (no_odd : Bool) → cause ≡ (if no_odd then Done else Odd) → TextEnds (decode_account request g t) (decode_source request g) before after cause
       by_odd true is = rw is (rw is at wrote)
       by_odd false is = rw is (rw is at wrote)
 
-  pub ends_on : (before left old mid last new : Option (List ℕ)) (ended : ShotsEnd) (tally : Tally) (cause : Cause) → IsOpened named request.shots before
-      → Appends old mid head_text → WritesBatches (λ shots. GathersFrom before request.format g left shots ended) request g t mid last tally
-      → EndsReport t ended (tally.best + tally.odd) (counts_in tally) last new cause → TextEnds (decode_account request g t) named (decode_source request g) left old new cause
-  ends_on before left old mid last new ended tally cause opened head wrote report =
-      go ended (gathers_opened named request.shots before request.format g left wrote.shots ended opened wrote.input) report
+  pub ends_on : (opened_left mid last : Option (List ℕ)) (ended : ShotsEnd) (tally : Tally) (cause : Cause) → IsOpened before.named request.shots opened_left
+      → Appends before.written mid head_text
+      → WritesBatches (λ shots. GathersFrom opened_left request.format g after.left shots ended) request g t mid last tally
+      → EndsReport t ended (tally.best + tally.odd) (counts_in tally) last after.written cause
+      → TextEnds (decode_account request g t) (decode_source request g) before after cause
+  ends_on opened_left mid last ended tally cause opened head wrote report =
+      go ended (gathers_opened before.named request.shots opened_left request.format g after.left wrote.shots ended opened wrote.input) report
     where
-      prefix : Appends old last (report_prefix request.trace wrote.batches)
-      prefix = Appends-trans old mid last head_text (batches_text request.trace 0 wrote.batches) head wrote.written
+      prefix : Appends before.written last (head_text ++ batches_text request.trace 0 wrote.batches)
+      prefix = Appends-trans before.written mid last head_text (batches_text request.trace 0 wrote.batches) head wrote.written
 
-      same_line : last_line t (tally.best + tally.odd) (counts_in tally) ≡ last_line t (length (all_rows wrote.batches)) (counts_of (all_rows wrote.batches))
+      same_line : last_line t (tally.best + tally.odd) (counts_in tally) ≡ last_line_of t wrote.batches
       same_line = ap (λ n. last_line t n (counts_in tally)) (counted_rows tally (all_rows wrote.batches) wrote.counts)
           ∙ ap (λ c. last_line t (length (all_rows wrote.batches)) c) wrote.counts
 
-      go : (e : ShotsEnd) → Gathers named request.shots request.format g left wrote.shots e → EndsReport t e (tally.best + tally.odd) (counts_in tally) last new cause
-          → TextEnds (decode_account request g t) named (decode_source request g) left old new cause
-      go end.End held (inl (all, is)) = ends_by left old new (counts_in tally) cause is (record {
+      go : (e : ShotsEnd) → Gathers before.named request.shots request.format g after.left wrote.shots e
+          → EndsReport t e (tally.best + tally.odd) (counts_in tally) last after.written cause
+          → TextEnds (decode_account request g t) (decode_source request g) before after cause
+      go end.End held (inl (all, is)) = ends_by (counts_in tally) cause is (record {
         shots = wrote.shots;
         input = held;
         answers = wrote.batches;
         right = wrote.answers;
-        written = Appends-trans old last new (report_prefix request.trace wrote.batches) _ prefix (subst (Appends last new) same_line all);
+        written = Appends-trans before.written last after.written (head_text ++ batches_text request.trace 0 wrote.batches) _ prefix (subst (Appends last after.written) same_line all);
         ends = is ∙ ap cause_of wrote.counts;
       })
       go end.End held (inr (part, is)) = rw is (record {
         shots = wrote.shots;
-        input = inr (holds_more named request.shots _ _ (are_first wrote.shots at_end) held);
+        input = inr (holds_more before.named request.shots _ _ (are_first wrote.shots at_end) held);
         answers = wrote.batches;
         right = wrote.answers;
-        written = inr (held, prefix_second old last new (report_prefix request.trace wrote.batches) _ prefix (subst (AppendsPrefix last new) same_line part));
+        windows = inr (inl held);
+        written = inr (
+          held,
+          appends_after head_text before.written mid after.written (batches_text request.trace 0 wrote.batches ++ last_line_of t wrote.batches) head
+              (prefix_second mid last after.written (batches_text request.trace 0 wrote.batches) (last_line_of t wrote.batches) wrote.written (subst (AppendsPrefix last after.written) same_line part)),
+        );
       })
       go (end.Refused fault) held (same, is) = rw is (record {
         shots = wrote.shots;

@@ -4,3 +4,4 @@ pub mod Decoded
 pub mod Finishing
 pub mod Sampled
 pub mod Answered
+pub mod Reread

@@ -8,7 +8,7 @@ use Rattle.fb_crew.specs.Windows.{AreRows, IsHistoryOf}
 use Rattle.fb_graph.specs.Limits.{DecodingGraph, ShotValue}
 use Rattle.fb_graph.specs.declared.parts.Row.{Row}
 use Rattle.fb_plan.specs.Plans.{PlanTree}
-use Rattle.fb_report.specs.Texts.{head_text, rows_text, trace_line, done_text}
+use Rattle.fb_report.specs.Texts.{rows_text, trace_line, done_text}
 use Rattle.fb_run.specs.Rows.{Counts, counts_of}
 use Rattle.fb_words.specs.Words.{Decoding}
 use Rattle.fb_endings.specs.declared.ending.Cause.{Cause}
@@ -57,17 +57,17 @@ AreBatches request g t shots [] = shots ≡ []
 AreBatches request g t shots (b ∷ bs) = (shots ≢ []) × AnswersBatch request g t (take request.window shots) b
     × AreBatches request g t (drop request.window shots) bs
 
+-- the shots fill whole windows, and there is a batch for each
+abbrev pub HaveWholeWindows : Decoding → List ShotValue → List Batch → Type 0
+HaveWholeWindows request shots batches = length shots ≡ request.window * length batches
+
 -- the last line after `rows` rows: each correction counts the plan's units and its fusions
 abbrev pub last_line : PlanTree → ℕ → Counts → List ℕ
 last_line t rows counts = done_text rows counts.odd (counts.best * t.units) (counts.best * length t.joins)
 
--- the head and the batches, without a last line
-abbrev pub report_prefix : Bool → List Batch → List ℕ
-report_prefix trace bs = head_text ++ batches_text trace 0 bs
-
--- the whole text of these batches
-abbrev pub report_text : PlanTree → Bool → List Batch → List ℕ
-report_text t trace bs = report_prefix trace bs ++ last_line t (length (all_rows bs)) (counts_of (all_rows bs))
+-- the last line after these batches
+abbrev pub last_line_of : PlanTree → List Batch → List ℕ
+last_line_of t bs = last_line t (length (all_rows bs)) (counts_of (all_rows bs))
 
 -- how a decode of all shots ends
 abbrev pub cause_of : Counts → Cause

@@ -4,7 +4,7 @@ use Rattle.fb_graph.specs.Limits.{DecodingGraph}
 use Rattle.fb_plan.specs.Plans.{PlanTree, single_of}
 use Rattle.fb_check.specs.Ends.{EndsAtFile, EndsInText, IsGraphRefusal}
 use Rattle.fb_check.specs.TextEnds.{Account, Source, TextEnds}
-use Rattle.fb_run.specs.Decoding.{AreBatches, Batch, all_rows, cause_of, report_prefix, report_text}
+use Rattle.fb_run.specs.Decoding.{AreBatches, Batch, HaveWholeWindows, all_rows, batches_text, cause_of, last_line_of}
 use Rattle.fb_report.specs.Texts.{head_text}
 use Rattle.fb_inputs.specs.Judging.{Asks, Holds, IsGraphText, IsNoPlan, IsPlanText, Named}
 use Rattle.fb_inputs.specs.Moments.{Moment, ReadsFile}
@@ -18,9 +18,10 @@ use Rattle.fb_endings.specs.declared.ending.Refusal.TheVariants as refusal
 abbrev pub decode_account : Decoding → DecodingGraph → PlanTree → Account Batch
 decode_account request g t = record {
   Answers = AreBatches request g t;
+  FillWindows = HaveWholeWindows request;
   head = head_text;
-  prefix = report_prefix request.trace;
-  whole = λ shots batches. report_text t request.trace batches;
+  body = batches_text request.trace 0;
+  last = λ shots batches. last_line_of t batches;
   cause = λ shots batches. cause_of (counts_of (all_rows batches));
 }
 
@@ -31,7 +32,7 @@ decode_source request g = record { name = request.shots; format = request.format
 abbrev pub EndsAtShots : Decoding → DecodingGraph → PlanTree → Moment → Moment → Cause → Type 0
 EndsAtShots request g t before after cause =
     Asks before.asked after.asked (request.shots ∷ [])
-    × TextEnds (decode_account request g t) before.named (decode_source request g) after.left before.written after.written cause
+    × TextEnds (decode_account request g t) (decode_source request g) before after cause
 
 -- the end of a decode for a graph by a plan of it: before the shots are asked for, or after
 abbrev pub EndsOn : Decoding → DecodingGraph → PlanTree → Moment → Moment → Cause → Type 0

@@ -5,7 +5,7 @@ use Rattle.fb_graph.specs.Limits.{DecodingGraph, ShotValue}
 use Rattle.fb_graph.specs.declared.parts.Row.{Row}
 use Rattle.fb_plan.specs.Plans.{PlanTree}
 use Rattle.fb_ports.specs.Causes.{Appends, AppendsPrefix}
-use Rattle.fb_run.specs.Decoding.{AreBatches, Batch, all_rows, batches_text, cause_of, last_line}
+use Rattle.fb_run.specs.Decoding.{AreBatches, Batch, HaveWholeWindows, all_rows, batches_text, cause_of, last_line}
 use Rattle.fb_run.specs.Rows.{Counts, counts_of}
 use Rattle.fb_words.specs.Words.{Decoding}
 use Rattle.fb_endings.specs.declared.ending.Cause.{Cause}
@@ -31,12 +31,13 @@ pub record WritesBatches (Input : List ShotValue → Type 0) (request : Decoding
   pub written : Appends old new (batches_text request.trace 0 batches)
   pub counts : counts_in tally ≡ counts_of (all_rows batches)
 
--- A prefix was written of the batches of some of the first shots.
-pub record WritesFirstBatches (Input : List ShotValue → Type 0) (request : Decoding) (g : DecodingGraph) (t : PlanTree) (old new : Option (List ℕ)) : Type 0 where
+-- A prefix was written of the batches of some of the first shots. They fill whole windows, or the shots end after them.
+pub record WritesFirstBatches (Input Ends : List ShotValue → Type 0) (request : Decoding) (g : DecodingGraph) (t : PlanTree) (old new : Option (List ℕ)) : Type 0 where
   pub shots : List ShotValue
   pub input : Input shots
   pub batches : List Batch
   pub answers : AreBatches request g t shots batches
+  pub windows : HaveWholeWindows request shots batches ⊎ Ends shots
   pub written : AppendsPrefix old new (batches_text request.trace 0 batches)
 
 -- the end of a report of `rows` rows, by how the shots ended: the last line only if they were read to their end

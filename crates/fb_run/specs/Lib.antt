@@ -7,3 +7,4 @@ pub mod Samples
 pub mod SampleEndings
 pub mod RunEndings
 pub mod InternalBatches
+pub mod ReadBack

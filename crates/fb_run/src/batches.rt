@@ -7,7 +7,7 @@ ghost use Rattle.fb_ports.specs.Causes.{Appends, AppendsPrefix, CountsFault};
 ghost use Rattle.fb_shots.specs.Steps.{IsReadOut};
 ghost use Rattle.fb_shots.specs.Streams.{fresh};
 ghost use Rattle.fb_inputs.specs.Judging.{most_shots};
-ghost use Rattle.fb_inputs.specs.InternalGathers.{FirstFrom, GathersFrom};
+ghost use Rattle.fb_inputs.specs.InternalGathers.{EndsFrom, FirstFrom, GathersFrom};
 ghost use Rattle.fb_report.specs.Texts.{rows_text};
 ghost use Rattle.fb_crew.specs.Windows.{AreRows, IsHistoryOf};
 ghost use Rattle.fb_book.specs.declared.limits.TheConstants.{MOST_AT_ONCE};
@@ -107,6 +107,7 @@ pub fn decode_file<F: Files, O: Sink, G: Gate, R: Threads + Wait + Sync>(
     ensures all { IfOk result (λ d. WritesBatches (λ shots. GathersFrom (F.left files.old) request.now.format graph.now (F.left files.new) shots d.end)
         (plain_decoding request.now) graph.now crew.old.plan (O.taken out.old) (O.taken out.new) d.tally) }
     ensures first { OnErr result (WritesFirstBatches (FirstFrom (F.left files.old) request.now.format graph.now)
+        (EndsFrom (F.left files.old) request.now.format graph.now (F.left files.new) (F.faults files.old) (F.faults files.new))
         (plain_decoding request.now) graph.now crew.old.plan (O.taken out.old) (O.taken out.new)) }
     ensures few { IfOk result (λ d. d.tally.best + d.tally.odd < 2 ^ 32) }
     ensures at_end { IfOk result (λ d. d.end ≡ ShotsEnd.End → IsReadOut (F.left files.old) (F.left files.new)) }
@@ -153,6 +154,7 @@ fn decode_stream<F: Files, O: Sink, G: Gate, R: Threads + Wait + Sync>(
     ensures all { IfOk result (λ d. WritesBatches (λ shots. GathersFrom (F.left files.old) stream.old.format stream.old.graph (F.left files.new) shots d.end)
         (plain_decoding request.now) stream.old.graph crew.old.plan (O.taken out.old) (O.taken out.new) d.tally) }
     ensures first { OnErr result (WritesFirstBatches (FirstFrom (F.left files.old) stream.old.format stream.old.graph)
+        (EndsFrom (F.left files.old) stream.old.format stream.old.graph (F.left files.new) (F.faults files.old) (F.faults files.new))
         (plain_decoding request.now) stream.old.graph crew.old.plan (O.taken out.old) (O.taken out.new)) }
     ensures few { IfOk result (λ d. d.tally.best + d.tally.odd < 2 ^ 32) }
     ensures at_end { IfOk result (λ d. d.end ≡ ShotsEnd.End → IsReadOut (F.left files.old) (F.left files.new)) }

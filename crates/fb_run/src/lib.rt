@@ -4,6 +4,7 @@
 
 mod batches;
 mod decoding;
+mod laws;
 mod running;
 mod sample_text;
 mod sampling;
@@ -11,4 +12,5 @@ mod sampling;
 pub use fb_crew::{Gate, OpenGate};
 pub use fb_endings::{Cause, Ended, Refusal, say};
 pub use fb_words::UsageKind;
+pub use laws::reads_back;
 pub use running::run;

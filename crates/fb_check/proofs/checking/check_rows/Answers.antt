@@ -2,6 +2,7 @@ use Rattle.std.proofs.Common.{◌∙◌, ℕ, [], inl, inr, refl, sym, subst, ap
 use Rattle.fb_words.specs.PlainRequests.{plain_checking}
 use Rattle.fb_check.specs.Checks.{check_head}
 use Rattle.fb_check.specs.Ends.{CountsReadFault}
+use Rattle.fb_inputs.specs.Moments.{moment}
 use Rattle.fb_inputs.proofs.Inputs.{asks_kept, asks_one, asks_same}
 use Rattle.fb_inputs.proofs.Gathered.{is_opened, is_unopened, read_out_opened}
 use Rattle.fb_check.proofs.Checked.{check_counted, check_to_end, checks_first, checks_on, first_opened, judged_opened, never_memory}
@@ -38,8 +39,12 @@ returns-in-Ok-judge_file-clause-ends g c =
       asks_kept (g.F.Files.asked c.args.files.now) (g.F.Files.asked c.open_file.new.self) (g.F.Files.asked c.judge_file.new.files) c.args.request.now.shots.now
           (rw c.in-Ok-from_str.ensures.ok at c.open_file.ensures.asks) c.judge_file.ensures.asks,
       λ e. absurd (never_memory c.in-Ok-judge_file.judged.end _ c.in-Ok-judge_file.judged.shots c.in-Ok-judge_file.judged.bad _ _ _ c.end_check.ensures.end e),
-      checks_on (g.F.Files.named c.args.files.now) (plain_checking c.args.request.now) c.args.graph.now c.args.rows.now (g.F.Files.left c.judge_file.new.files)
-          (g.O.Sink.taken c.args.out.now) (g.O.Sink.taken c.put_check_head.new.sink) (g.O.Sink.taken c.judge_file.new.out) (g.O.Sink.taken c.end_check.new.out)
+      checks_on (plain_checking c.args.request.now) c.args.graph.now c.args.rows.now
+          (moment (g.F.Files.named c.args.files.now) (g.F.Files.left c.args.files.now) (g.F.Files.asked c.args.files.now)
+          (g.F.Files.faults c.args.files.now) (g.O.Sink.taken c.args.out.now))
+          (moment (g.F.Files.named c.judge_file.new.files) (g.F.Files.left c.judge_file.new.files) (g.F.Files.asked c.judge_file.new.files)
+          (g.F.Files.faults c.judge_file.new.files) (g.O.Sink.taken c.end_check.new.out))
+          (g.O.Sink.taken c.put_check_head.new.sink) (g.O.Sink.taken c.judge_file.new.out)
           c.in-Ok-judge_file.judged _ _ refl c.in-Ok.ensures.all
           (judged_opened (g.F.Files.named c.args.files.now) c.args.request.now.shots.now (g.F.Files.left c.open_file.new.self) c.args.request.now.format
           c.args.graph.now c.args.rows.now (g.O.Sink.taken c.put_check_head.new.sink) (g.O.Sink.taken c.judge_file.new.out) (g.F.Files.left c.judge_file.new.files)
@@ -55,8 +60,12 @@ returns-in-Err-WriteFault-clause-ends g c =
       asks_kept (g.F.Files.asked c.args.files.now) (g.F.Files.asked c.open_file.new.self) (g.F.Files.asked c.judge_file.new.files) c.args.request.now.shots.now
           (rw c.in-Ok-from_str.ensures.ok at c.open_file.ensures.asks) c.judge_file.ensures.asks,
       λ e. cc,
-      checks_first (g.F.Files.named c.args.files.now) (plain_checking c.args.request.now) c.args.graph.now c.args.rows.now (g.O.Sink.taken c.args.out.now)
-          (g.O.Sink.taken c.put_check_head.new.sink) (g.O.Sink.taken c.judge_file.new.out) c.in-Ok.ensures.all
+      checks_first (plain_checking c.args.request.now) c.args.graph.now c.args.rows.now
+          (moment (g.F.Files.named c.args.files.now) (g.F.Files.left c.args.files.now) (g.F.Files.asked c.args.files.now)
+          (g.F.Files.faults c.args.files.now) (g.O.Sink.taken c.args.out.now))
+          (moment (g.F.Files.named c.judge_file.new.files) (g.F.Files.left c.judge_file.new.files) (g.F.Files.asked c.judge_file.new.files)
+          (g.F.Files.faults c.judge_file.new.files) (g.O.Sink.taken c.judge_file.new.out))
+          (g.O.Sink.taken c.put_check_head.new.sink) c.in-Ok.ensures.all
           (first_opened (g.F.Files.named c.args.files.now) c.args.request.now.shots.now (g.F.Files.left c.open_file.new.self) c.args.request.now.format
           c.args.graph.now c.args.rows.now (g.O.Sink.taken c.put_check_head.new.sink) (g.O.Sink.taken c.judge_file.new.out)
           (is_opened (g.F.Files.named c.args.files.now) c.args.request.now.shots.now (g.F.Files.left c.open_file.new.self) _ refl
@@ -71,8 +80,12 @@ returns-in-Err-NoMemory-clause-ends g c =
       asks_kept (g.F.Files.asked c.args.files.now) (g.F.Files.asked c.open_file.new.self) (g.F.Files.asked c.judge_file.new.files) c.args.request.now.shots.now
           (rw c.in-Ok-from_str.ensures.ok at c.open_file.ensures.asks) c.judge_file.ensures.asks,
       λ e. unread refl ∙ c.in-Ok-open_file.ensures.cause,
-      checks_first (g.F.Files.named c.args.files.now) (plain_checking c.args.request.now) c.args.graph.now c.args.rows.now (g.O.Sink.taken c.args.out.now)
-          (g.O.Sink.taken c.put_check_head.new.sink) (g.O.Sink.taken c.judge_file.new.out) c.in-Ok.ensures.all
+      checks_first (plain_checking c.args.request.now) c.args.graph.now c.args.rows.now
+          (moment (g.F.Files.named c.args.files.now) (g.F.Files.left c.args.files.now) (g.F.Files.asked c.args.files.now)
+          (g.F.Files.faults c.args.files.now) (g.O.Sink.taken c.args.out.now))
+          (moment (g.F.Files.named c.judge_file.new.files) (g.F.Files.left c.judge_file.new.files) (g.F.Files.asked c.judge_file.new.files)
+          (g.F.Files.faults c.judge_file.new.files) (g.O.Sink.taken c.judge_file.new.out))
+          (g.O.Sink.taken c.put_check_head.new.sink) c.in-Ok.ensures.all
           (first_opened (g.F.Files.named c.args.files.now) c.args.request.now.shots.now (g.F.Files.left c.open_file.new.self) c.args.request.now.format
           c.args.graph.now c.args.rows.now (g.O.Sink.taken c.put_check_head.new.sink) (g.O.Sink.taken c.judge_file.new.out)
           (is_opened (g.F.Files.named c.args.files.now) c.args.request.now.shots.now (g.F.Files.left c.open_file.new.self) _ refl

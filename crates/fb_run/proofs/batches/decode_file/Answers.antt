@@ -4,7 +4,7 @@ use Rattle.fb_run.proofs.batches.decode_file.Goals as goal
 
 pub returns-in_default-clause-first : goal.returns-in_default-clause-first
 returns-in_default-clause-first g c =
-    none_decoded (plain_decoding c.args.request.now) c.args.crew.now.plan (g.F.Files.left c.args.files.now) c.args.request.now.format c.args.graph.now
+    none_decoded _ (plain_decoding c.args.request.now) c.args.crew.now.plan (g.F.Files.left c.args.files.now) c.args.request.now.format c.args.graph.now
     (g.O.Sink.taken c.args.out.now)
 
 pub returns-clause-all : goal.returns-clause-all

@@ -1,5 +1,6 @@
-use Rattle.std.proofs.Common.{◌∙◌, Result, Ok, Err, OnErr, refl, subst}
+use Rattle.std.proofs.Common.{◌∙◌, ℕ, Result, Ok, Err, OnErr, refl, subst}
 use Rattle.fb_crew.specs.Crews.{CrewValue}
+use Rattle.fb_ports.specs.Causes.{Rose}
 use Rattle.fb_run.proofs.Decoded.{all_decoded, all_read_out, decoding_begins, decoding_more, few_decoded, fits_more, more_first, slots_more, so_far_first}
 use Rattle.fb_run.specs.InternalBatches.{TakesBatch, batch_in}
 use Rattle.fb_words.specs.PlainRequests.{plain_decoding}
@@ -31,7 +32,7 @@ loop-next-init g c = record {
 pub returns-in_default-clause-first : goal.returns-in_default-clause-first
 returns-in_default-clause-first g c =
     so_far_first (plain_decoding c.args.request.now) c.args.crew.now.plan c.args.stream.now (g.F.Files.left c.args.files.now) (g.O.Sink.taken c.args.out.now)
-    c.requires.fresh c.loop-next.stream (g.F.Files.left c.loop-next.files) (g.O.Sink.taken c.loop-next.out) c.loop-next.tally c.loop-next.invariant.decoding
+    c.requires.fresh c.loop-next.stream (g.F.Files.left c.loop-next.files) (g.O.Sink.taken c.loop-next.out) c.loop-next.tally c.loop-next.invariant.decoding _
 
 pub write_batch-requires-clause-few : goal.write_batch-requires-clause-few
 write_batch-requires-clause-few g c =
@@ -53,7 +54,9 @@ returns-in_err-tally-clause-first g c = on_err c.from_residual.result _
     c.requires.fresh c.loop-next.stream (g.F.Files.left c.loop-next.files) (g.O.Sink.taken c.loop-next.out) c.loop-next.tally c.loop-next.invariant.decoding
     c.next_batch.new.stream (g.F.Files.left c.next_batch.new.files) (batch_in c.in-Ok.next.batch) c.in-Ok.next.end
     (taken_at g (goal.at.returns-in_err-tally-clause-first g c).In-Ok)
-    (g.O.Sink.taken c.write_batch.new.out) c.in_err-tally.ensures.prefix)
+    (g.O.Sink.taken c.write_batch.new.out) c.requires.some (g.F.Files.faults c.args.files.now) (g.F.Files.faults c.next_batch.new.files)
+    (λ failed. subst (λ (n : ℕ). Rose n (g.F.Files.faults c.next_batch.new.files)) c.loop-next.invariant.unread (c.in-Ok.ensures.reads.0 failed))
+    c.in_err-tally.ensures.prefix)
 
 pub returns-in-Some-clause-all : goal.returns-in-Some-clause-all
 returns-in-Some-clause-all g c =

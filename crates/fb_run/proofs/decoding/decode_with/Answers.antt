@@ -2,6 +2,7 @@ use Rattle.std.proofs.Common.{ℕ, [], inl, inr, refl, sym, subst, append-nil}
 use Rattle.fb_report.specs.Texts.{head_text}
 use Rattle.fb_check.specs.Ends.{CountsReadFault}
 use Rattle.fb_words.specs.PlainRequests.{plain_decoding}
+use Rattle.fb_inputs.specs.Moments.{moment}
 use Rattle.fb_inputs.proofs.Inputs.{asks_kept, asks_one, asks_same}
 use Rattle.fb_inputs.proofs.Gathered.{is_opened, is_unopened, read_out_opened}
 use Rattle.fb_run.proofs.Finishing.{ends_on, prefix_of_batches, report_counted, report_to_end}
@@ -43,9 +44,12 @@ returns-in-Ok-decode_file-clause-ends g c =
     inr (
       asks_kept (g.F.Files.asked c.args.files.now) (g.F.Files.asked c.open_file.new.self) (g.F.Files.asked c.decode_file.new.files) c.args.request.now.shots.now
           (rw c.in-Ok-from_str.ensures.ok at c.open_file.ensures.asks) c.decode_file.ensures.asks,
-      ends_on (g.F.Files.named c.args.files.now) (plain_decoding c.args.request.now) c.args.graph.now c.args.plan.now (g.F.Files.left c.open_file.new.self)
-          (g.F.Files.left c.decode_file.new.files) (g.O.Sink.taken c.args.out.now) (g.O.Sink.taken c.write_head.new.sink)
-          (g.O.Sink.taken c.decode_file.new.out) (g.O.Sink.taken c.end_report.new.out) c.in-Ok-decode_file.decoded.end c.in-Ok-decode_file.decoded.tally
+      ends_on (plain_decoding c.args.request.now) c.args.graph.now c.args.plan.now
+          (moment (g.F.Files.named c.args.files.now) (g.F.Files.left c.args.files.now) (g.F.Files.asked c.args.files.now)
+          (g.F.Files.faults c.args.files.now) (g.O.Sink.taken c.args.out.now))
+          (moment (g.F.Files.named c.decode_file.new.files) (g.F.Files.left c.decode_file.new.files) (g.F.Files.asked c.decode_file.new.files)
+          (g.F.Files.faults c.decode_file.new.files) (g.O.Sink.taken c.end_report.new.out))
+          (g.F.Files.left c.open_file.new.self) (g.O.Sink.taken c.write_head.new.sink) (g.O.Sink.taken c.decode_file.new.out) c.in-Ok-decode_file.decoded.end c.in-Ok-decode_file.decoded.tally
           c.end_report.result (opened_at g (goal.at.returns-in-Ok-decode_file-clause-ends g c).In-Ok-open_file) c.in-Ok.ensures.all
           (rw c.requires.crew at c.in-Ok-decode_file.ensures.all) c.end_report.ensures.end,
     )
@@ -61,10 +65,14 @@ returns-in-Err-WriteFault-clause-ends g c =
     inr (
       asks_kept (g.F.Files.asked c.args.files.now) (g.F.Files.asked c.open_file.new.self) (g.F.Files.asked c.decode_file.new.files) c.args.request.now.shots.now
           (rw c.in-Ok-from_str.ensures.ok at c.open_file.ensures.asks) c.decode_file.ensures.asks,
-      prefix_of_batches (g.F.Files.named c.args.files.now) (plain_decoding c.args.request.now) c.args.graph.now c.args.plan.now (g.F.Files.left c.open_file.new.self)
-          (g.O.Sink.taken c.args.out.now) (g.O.Sink.taken c.write_head.new.sink) (g.O.Sink.taken c.decode_file.new.out)
+      prefix_of_batches (plain_decoding c.args.request.now) c.args.graph.now c.args.plan.now
+          (moment (g.F.Files.named c.args.files.now) (g.F.Files.left c.args.files.now) (g.F.Files.asked c.args.files.now)
+          (g.F.Files.faults c.args.files.now) (g.O.Sink.taken c.args.out.now))
+          (moment (g.F.Files.named c.decode_file.new.files) (g.F.Files.left c.decode_file.new.files) (g.F.Files.asked c.decode_file.new.files)
+          (g.F.Files.faults c.decode_file.new.files) (g.O.Sink.taken c.decode_file.new.out))
+          (g.F.Files.left c.open_file.new.self) (g.O.Sink.taken c.write_head.new.sink)
           (opened_at g (goal.at.returns-in-Err-WriteFault-clause-ends g c).In-Ok-open_file) c.in-Ok.ensures.all
-          (rw c.requires.crew at c.in-Err-WriteFault.ensures.first),
+          (rw c.in-Ok-open_file.ensures.cause at (rw c.requires.crew at c.in-Err-WriteFault.ensures.first)),
     )
 
 pub returns-in-Err-NoMemory-clause-ends : goal.returns-in-Err-NoMemory-clause-ends
@@ -72,10 +80,14 @@ returns-in-Err-NoMemory-clause-ends g c =
     inr (
       asks_kept (g.F.Files.asked c.args.files.now) (g.F.Files.asked c.open_file.new.self) (g.F.Files.asked c.decode_file.new.files) c.args.request.now.shots.now
           (rw c.in-Ok-from_str.ensures.ok at c.open_file.ensures.asks) c.decode_file.ensures.asks,
-      prefix_of_batches (g.F.Files.named c.args.files.now) (plain_decoding c.args.request.now) c.args.graph.now c.args.plan.now (g.F.Files.left c.open_file.new.self)
-          (g.O.Sink.taken c.args.out.now) (g.O.Sink.taken c.write_head.new.sink) (g.O.Sink.taken c.decode_file.new.out)
+      prefix_of_batches (plain_decoding c.args.request.now) c.args.graph.now c.args.plan.now
+          (moment (g.F.Files.named c.args.files.now) (g.F.Files.left c.args.files.now) (g.F.Files.asked c.args.files.now)
+          (g.F.Files.faults c.args.files.now) (g.O.Sink.taken c.args.out.now))
+          (moment (g.F.Files.named c.decode_file.new.files) (g.F.Files.left c.decode_file.new.files) (g.F.Files.asked c.decode_file.new.files)
+          (g.F.Files.faults c.decode_file.new.files) (g.O.Sink.taken c.decode_file.new.out))
+          (g.F.Files.left c.open_file.new.self) (g.O.Sink.taken c.write_head.new.sink)
           (opened_at g (goal.at.returns-in-Err-NoMemory-clause-ends g c).In-Ok-open_file) c.in-Ok.ensures.all
-          (rw c.requires.crew at c.in-Err-NoMemory.ensures.first),
+          (rw c.in-Ok-open_file.ensures.cause at (rw c.requires.crew at c.in-Err-NoMemory.ensures.first)),
     )
 
 pub returns-in-Ok-decode_file-clause-reads : goal.returns-in-Ok-decode_file-clause-reads
