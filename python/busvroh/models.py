@@ -204,10 +204,10 @@ class Reader:
         if name == "error":
             self.take_error(arguments, targets)
         elif name == "detector":
-            for detector in self.numbers("D", targets):
+            for detector in self.numbers("D", targets.split()):
                 self.count_detector(detector)
         elif name == "logical_observable":
-            for observable in self.numbers("L", targets):
+            for observable in self.numbers("L", targets.split()):
                 self.count_observable(observable)
         elif name == "shift_detectors":
             self.blocks[-1].shift += self.one_number(targets)
@@ -241,7 +241,7 @@ class Reader:
                 block.count_detector(high, self.line)
             place = self.place_of_text.get(observables)
             if place is None:
-                place = self.place_of_text[observables] = self.place(self.numbers("L", observables))
+                place = self.place_of_text[observables] = self.place(self.numbers("L", observables.split()))
             block.add(place << 2 * BITS | low << BITS | high, rate, self.line)
 
     def take_error(self, arguments, targets):
@@ -253,10 +253,9 @@ class Reader:
 
     def take_part(self, targets, rate):
         tokens = targets.split()
-        detectors = self.numbers("D", " ".join(token for token in tokens if token[0] != "L"))
-        observables = self.numbers("L", " ".join(token for token in tokens if token[0] == "L"))
-        ends = odd_ones(self.count_detector(detector) for detector in detectors)
-        place = self.place(observables)
+        detectors = self.numbers("D", [token for token in tokens if token[0] != "L"])
+        observables = self.numbers("L", [token for token in tokens if token[0] == "L"])
+        ends, place = odd_ones(map(self.count_detector, detectors)), self.place(observables)
         block = self.blocks[-1]
         if len(ends) > 2 and not self.skip_hyperedges:
             raise self.error(
@@ -300,9 +299,8 @@ class Reader:
         self.rate_of_text[text] = rate
         return rate
 
-    def numbers(self, kind, targets):
+    def numbers(self, kind, tokens):
         """The numbers of targets that are all of one kind."""
-        tokens = targets.split()
         for token in tokens:
             if token[0] != kind:
                 raise self.error(f"{token}: in place of a target {kind} and its number")
