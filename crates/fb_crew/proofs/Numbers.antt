@@ -1,6 +1,7 @@
 -- Seats by the numbers of their workers.
 use Rattle.std.proofs.Common.{ℕ, ◌≡◌, ◌≢◌, ◌+◌, ◌<◌, ◌⊎◌, inl, inr, List, [], ◌∷◌, ◌++◌, length, get_or, sym, ap, subst, ◌∙◌, arith, length-append}
 use Rattle.std.proofs.lemmas.List.{get_or_append_left}
+use Rattle.std.proofs.Math.Nat.{eq-or-lt_of_le}
 use Rattle.std.proofs.Math.Seq.{get_or-append_seam}
 use Rattle.fb_crew.specs.Crews.{AreNumbered}
 
@@ -16,14 +17,11 @@ module _ {A : Type 0} (number : A → ℕ) where
       at_end k d end = ap (λ i. number (get_or (xs ++ x ∷ []) i d)) end ∙ (ap number (get_or-append_seam xs x [] d) ∙ (last ∙ sym end))
 
       all : AreNumbered number (xs ++ x ∷ [])
-      all = λ k d less. step k d (within k (omega (arith, less, length-append xs (x ∷ []))))
+      all = λ k d less. step k d (eq-or-lt_of_le (omega (arith, less, length-append xs (x ∷ []))))
         where
-          within : (k : ℕ) → k < length xs + 1 → (k < length xs) ⊎ (k ≡ length xs)
-          within k less = omega (arith, less)
-
-          step : (k : ℕ) (d : A) → (k < length xs) ⊎ (k ≡ length xs) → number (get_or (xs ++ x ∷ []) k d) ≡ k
-          step k d (inl less) = ap number (get_or_append_left xs (x ∷ []) d k less) ∙ each k d less
-          step k d (inr end) = at_end k d end
+          step : (k : ℕ) (d : A) → (k ≡ length xs) ⊎ (k < length xs) → number (get_or (xs ++ x ∷ []) k d) ≡ k
+          step k d (inl end) = at_end k d end
+          step k d (inr less) = ap number (get_or_append_left xs (x ∷ []) d k less) ∙ each k d less
 
   -- without the last one
   pub numbered_fewer : (xs all : List A) (x : A) → all ≡ xs ++ x ∷ [] → AreNumbered number all → AreNumbered number xs × (number x ≡ length xs)

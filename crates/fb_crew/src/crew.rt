@@ -36,7 +36,7 @@ impl<P: Piece> Finished<P> {
     /// The finished job with its workers' tools.
     fn with_tools<T: Drop>(self, tools: Vec<T>) -> Worked<P, T>
         ensures { (result.roots ≡ self.roots) × (result.history ≡ self.history) × (result.made ≡ self.made)
-            × (result.tools ≡ tools.entry) }
+            × (result.tools ≡ tools) }
     {
         let Finished {
             roots,

@@ -63,6 +63,7 @@ pub(crate) fn next_item<P: Piece, T, H: Hands<P, T>, G: Gate, N: Board>(
     ensures quiet { result ≡ Ok Turn.Done → IsQuiet (course_of N.job book.old.0) → IsQuiet (course_of N.job book.new.0) }
     ensures finished { result ≡ Ok Turn.NoItem → IsQuiet (course_of N.job book.old.0)
         → is_finished (course_of N.job book.new.0) ≡ true }
+    ensures same { result ≡ Ok Turn.NoItem → book.new ≡ book.old }
 {
     book.keeps();
     match book.claim(worker) {

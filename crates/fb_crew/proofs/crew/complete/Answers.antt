@@ -1,11 +1,13 @@
-use Rattle.std.proofs.Common.{◌≡◌, ◌∙◌, true, sym, subst}
-use Rattle.std.specs.Prelude.{IfOk}
-use Rattle.fb_book.specs.Board.{is_finished}
-use Rattle.fb_book.specs.Books.{course_of}
+use Rattle.std.proofs.Common.{◌≡◌, ◌+◌, ◌∙◌, length, arith, ap, sym}
+use Rattle.fb_half.proofs.DoneSteps.{made_holds}
 use Rattle.fb_crew.proofs.crew.complete.Goals as goal
+use Rattle.fb_crew.proofs.crew.complete.Goals.{In_ok-rest}
 
-pub finish-requires : goal.finish-requires
-finish-requires g c =
-    subst (λ b. is_finished (course_of g.N.Board.job b.0) ≡ true) c.in_ok-done.ensures.1
-    (sym (subst (λ r. IfOk r (λ done. done ≡ is_finished (course_of g.N.Board.job c.do_rest.new.book.0))) c.in_ok-done.ensures.0 c.do_rest.ensures)
-    ∙ c.if-done.true)
+counted_at : (g : _) (c : In_ok-rest g) → length c.in_ok-rest.book.0 ≡ c.args.counted.made + c.in_ok-rest.rest
+counted_at g c =
+    sym (ap (λ book. length book.0) c.in_ok-rest.ensures.1)
+    ∙ (made_holds (λ made. length c.do_rest.new.book.0 ≡ length c.args.counted.book.0 + made) c.do_rest.result c.in_ok-rest.rest c.in_ok-rest.ensures.0 c.do_rest.ensures
+    ∙ ap (λ n. n + c.in_ok-rest.rest) c.args.counted.counted)
+
+pub finish-requires-clause-made : goal.finish-requires-clause-made
+finish-requires-clause-made g c = counted_at g (goal.at.finish-requires g c).In_ok-rest

@@ -9,7 +9,7 @@ returns-clause-history g c =
     let run = course_of g.N.Board.job c.args.book.0 in
     subst (IsCompleteOf g.N.Board.job) (sym c.take_roots-roots.ensures.history)
     (c.complete_history.ensures.done (kids_of run) (nodes_of run) (item_count run) c.args.book.0 (statuses_of run)
-    c.keeps.ensures.forest c.keeps.ensures.run c.requires)
+    c.keeps.ensures.forest c.keeps.ensures.run c.requires.finished)
 
 pub returns-clause-workers : goal.returns-clause-workers
 returns-clause-workers g c =

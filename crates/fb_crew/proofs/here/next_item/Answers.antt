@@ -72,3 +72,15 @@ returns-in-Over-clause-finished g c = λ _ quiet.
     let over = c.in-Over.ensures.over refl in
     subst (λ b. is_finished (course_of g.N.Board.job b.0) ≡ true) (sym over.0)
     (finished_when_over g.N.Board.job over.1 quiet)
+
+pub returns-in-Unit-clause-same : goal.returns-in-Unit-clause-same
+returns-in-Unit-clause-same g c = λ none. absurd (done_alone _ c.give.ensures.done none)
+
+pub returns-in-Fusion-clause-same : goal.returns-in-Fusion-clause-same
+returns-in-Fusion-clause-same g c = λ none. absurd (done_alone _ c.give-in-Fusion.ensures.done none)
+
+pub returns-in-NotYet-clause-same : goal.returns-in-NotYet-clause-same
+returns-in-NotYet-clause-same g c = λ _. (c.in-NotYet.ensures.not_yet refl).0
+
+pub returns-in-Over-clause-same : goal.returns-in-Over-clause-same
+returns-in-Over-clause-same g c = λ _. (c.in-Over.ensures.over refl).0
