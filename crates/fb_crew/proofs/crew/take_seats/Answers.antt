@@ -1,4 +1,4 @@
-use Rattle.std.proofs.Common.{sym, subst, ◌∙◌, arith}
+use Rattle.std.proofs.Common.{length, ap, sym, subst, ◌∙◌, arith}
 use Rattle.std.proofs.lemmas.Grind.{common_steps}
 use Rattle.fb_crew.specs.Crews.{AreNumbered}
 use Rattle.fb_crew.proofs.Numbers.{numbered_more, numbered_none}
@@ -6,7 +6,7 @@ use Rattle.fb_crew.proofs.crew.take_seats.Goals as goal
 
 pub loop-worker-init : goal.loop-worker-init
 loop-worker-init g c = record {
-  seats = c.in_ok-seats.ensures.len;
+  seats = ap length c.in_ok-seats.ensures.items;
   numbers = subst (AreNumbered (λ s. s.worker)) (sym c.in_ok-seats.ensures.items) (numbered_none (λ s. s.worker));
   seats_room = c.in_ok-seats.ensures.capacity;
   tools = omega arith;
