@@ -10,4 +10,4 @@ counted_at g c =
     ∙ ap (λ n. n + c.in_ok-rest.rest) c.args.counted.counted)
 
 pub finish-requires-clause-made : goal.finish-requires-clause-made
-finish-requires-clause-made g c = counted_at g (goal.at.finish-requires g c).In_ok-rest
+finish-requires-clause-made g c = counted_at g (goal.at.finish-requires-clause-made g c).In_ok-rest
