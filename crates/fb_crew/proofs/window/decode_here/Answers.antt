@@ -1,6 +1,7 @@
 use Rattle.std.proofs.Common.{All, sym, subst}
 use Rattle.fb_graph.specs.Limits.{DecodingGraph, IsShot}
 use Rattle.fb_crew.specs.InternalWindows.{IsSorted}
+use Rattle.fb_crew.proofs.Joined.{at_most_none, window_of}
 use Rattle.fb_crew.proofs.Rooted.{even_of_even, even_of_few, even_of_shots}
 use Rattle.fb_crew.proofs.window.decode_here.Goals as goal
 use Rattle.fb_crew.proofs.window.decode_here.Goals.{In_ok-odd}
@@ -23,3 +24,13 @@ new-job-requires-clause-shots c =
 
 pub new-job-requires-clause-even : goal.new-job-requires-clause-even
 new-job-requires-clause-even c = even_of_even c.args.graph.now c.args.plan.now c.requires.plan c.args.shots.now _ _ _ (sorted_at c)
+
+pub returns-clause-rows : goal.returns-clause-rows
+returns-clause-rows c =
+    (window_of c.args.shots.now 0 c.new-job.result _ c.join_window.result c.new-job.ensures
+    (c.join_window.ensures 0 (at_most_none c.in_ok-roots.field-0.history.items c.in_ok-roots.ensures.workers))).0
+
+pub returns-clause-history : goal.returns-clause-history
+returns-clause-history c =
+    (window_of c.args.shots.now 0 c.new-job.result _ c.join_window.result c.new-job.ensures
+    (c.join_window.ensures 0 (at_most_none c.in_ok-roots.field-0.history.items c.in_ok-roots.ensures.workers))).1

@@ -1,6 +1,9 @@
 use Rattle.std.proofs.Common.{All, sym, subst}
 use Rattle.fb_graph.specs.Limits.{DecodingGraph, IsShot}
+use Rattle.fb_crew.specs.declared.window.Window.{Window}
 use Rattle.fb_crew.specs.InternalWindows.{IsSorted}
+use Rattle.fb_crew.specs.Windows.{AreRows, IsHistoryOf}
+use Rattle.fb_crew.proofs.Joined.{beside, window_of}
 use Rattle.fb_crew.proofs.Rooted.{even_of_even, even_of_few, even_of_shots}
 use Rattle.fb_crew.proofs.window.solve_window.Goals as goal
 use Rattle.fb_crew.proofs.window.solve_window.Goals.{In_ok-odd}
@@ -23,3 +26,15 @@ new-job-requires-clause-shots g c =
 
 pub new-job-requires-clause-even : goal.new-job-requires-clause-even
 new-job-requires-clause-even g c = even_of_even c.args.graph.now c.args.plan.now c.requires.plan c.args.shots.now _ _ _ (sorted_at g c)
+
+pub returns-clause-rows : goal.returns-clause-rows
+returns-clause-rows g c =
+    beside (λ (w : Window). AreRows c.args.graph.now c.args.shots.now w.rows.items) c.join_window-window.result _ c.both.result c.both.ensures
+    (window_of c.args.shots.now c.args.workers c.new-job.result _ c.join_window-window.result c.new-job.ensures
+    (c.join_window-window.ensures c.args.workers c.in_ok-roots.ensures.workers)).0
+
+pub returns-clause-history : goal.returns-clause-history
+returns-clause-history g c =
+    beside (λ (w : Window). IsHistoryOf c.args.plan.now c.args.workers w.rows.items w.history.items) c.join_window-window.result _ c.both.result
+    c.both.ensures (window_of c.args.shots.now c.args.workers c.new-job.result _ c.join_window-window.result c.new-job.ensures
+    (c.join_window-window.ensures c.args.workers c.in_ok-roots.ensures.workers)).1
