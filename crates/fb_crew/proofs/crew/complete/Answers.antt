@@ -1,4 +1,4 @@
-use Rattle.std.proofs.Common.{◌≡◌, ◌+◌, ◌∙◌, length, arith, ap, sym}
+use Rattle.std.proofs.Common.{◌≡◌, ◌+◌, ◌∙◌, length, ap, sym}
 use Rattle.fb_half.proofs.DoneSteps.{made_holds}
 use Rattle.fb_crew.proofs.crew.complete.Goals as goal
 use Rattle.fb_crew.proofs.crew.complete.Goals.{In_ok-rest}
