@@ -1,31 +1,32 @@
 -- What one turn of a stream does: its bytes are fed, its reader is asked, and where that decides nothing a read is made.
-use Rattle.std.proofs.Common.{◌≡◌, ℕ, suc, ◌+◌, ◌-◌, ◌<◌, ◌≤◌, Bool, true, false, List, [], ◌++◌, length, if◌then◌else◌, Option, Some, None, IfSome, refl, sym, ap, subst, subst₂, ◌∙◌, inl, inr, append-nil, length-append, arith}
-use Rattle.std.proofs.lemmas.Bool.{cases_Bool, cond-false, both_ways}
-use Rattle.std.specs.Io.KnownBytes.{Consumes, Keeps}
+use Rattle.std.proofs.Common.{◌≡◌, ℕ, suc, ◌+◌, ◌-◌, ◌<◌, ◌≤◌, nat_le, Bool, true, false, List, [], ◌++◌, length, if◌then◌else◌, Option, Some, None, IfSome, MatchOption, Result, Ok, refl, sym, ap, subst, subst₂, ◌∙◌, inl, inr, append-nil, length-append, arith}
+use Rattle.std.specs.Prelude.{⊤}
+use Rattle.std.proofs.lemmas.Bool.{cases_Bool, cond-true, cond-false, both_ways, le-leb, leb-true, leb-false}
+use Rattle.std.specs.Io.KnownBytes.{Consumes, IsAtEnd, Keeps}
 use Rattle.std.proofs.KnownBytes.{Consumes-nil}
 use Rattle.fb_graph.specs.Limits.{ShotValue}
+use Rattle.fb_ports.specs.Causes.{CountsFault}
 use Rattle.fb_shots.specs.declared.answer.Kind.{Kind}
 use Rattle.fb_shots.specs.declared.answer.Kind.TheVariants.{TooManyShots, InputTooLong}
 use Rattle.fb_shots.specs.declared.answer.Step.{Step}
 use Rattle.fb_shots.specs.declared.answer.Step.TheVariants as step
 use Rattle.fb_records.specs.declared.answer.Next.TheVariants as next
+use Rattle.fb_shots.specs.declared.stream.Read.{Read}
 use Rattle.fb_shots.specs.declared.stream.Read.TheVariants as read
+use Rattle.fb_shots.specs.declared.tally.Tally.{Tally}
 use Rattle.fb_shots.specs.Shots.{Shots, only, with_first_shot, at_end, still_open, refused, capped_shots}
 use Rattle.fb_shots.specs.Formats.{records_of, prefix_of}
-use Rattle.fb_shots.specs.InternalSources.{Source, stream_by}
+use Rattle.fb_shots.specs.InternalSources.{Source, stream_by, with_piece}
 use Rattle.fb_shots.specs.InternalAnswers.{Gives, NextShot}
 use Rattle.fb_shots.specs.InternalAnswers as reader
 use Rattle.fb_shots.specs.Streams.{most_bytes, Stream, stream_of, follows}
-use Rattle.fb_shots.specs.Steps.{OnlyTakes, GivesShot, Ends, IsReason, Refuses, FailsToRead, Answers}
+use Rattle.fb_shots.specs.Steps.{IfKnown, IsReadOut, OnlyTakes, GivesShot, Ends, IsReason, Refuses, FailsToRead, Answers}
 use Rattle.fb_shots.specs.InternalReads.{may_read, ReadsOn}
+use Rattle.fb_shots.specs.InternalTallies.{refusal_of, stopped_by, step_after, step_after_read, tally_after, tally_after_read}
 use Rattle.fb_shots.proofs.Follows.{fed, held, capped_only, capped_shot, capped_none, held_shot, held_refused, held_piece, held_long, follows_open, follows_done}
 use Rattle.fb_shots.proofs.Taking.{Left, known_same, known_taken, each_some, takes_nothing}
 
 -- once the piece that was read is fed
-pub when_fed : (a b : Source) (piece : List ℕ) (u k l : ℕ) (stopped : Option Kind) → b ≡ record a { rest = a.rest ++ piece }
-    → stream_by a piece u k l stopped ≡ fed b u k l stopped
-when_fed a b piece u k l stopped e = ap (λ (s : Source). fed s u k l stopped) (sym e)
-
 pub when_empty : (a : Source) (piece : List ℕ) (u k l : ℕ) (stopped : Option Kind) → piece ≡ [] → stream_by a piece u k l stopped ≡ fed a u k l stopped
 when_empty a piece u k l stopped e =
     let made : List ℕ → Stream = λ rest. fed (record a { rest = rest }) u k l stopped in
@@ -266,98 +267,176 @@ new_gives a b piece l bytes same none still empty =
 
 -- ---- a turn, as the code has its parts at hand
 
--- The stream `now` has fed its piece p to its reader a, which is b then, and the reader, t after that, has answered.
-pub record Asked (now : Stream) (a b t : Source) (p q : List ℕ) (u k l : ℕ) (stopped : Option Kind) (answer : NextShot) : Type 0 where
-  pub view : stream_by a p u k l stopped ≡ now
-  pub runs : stopped ≡ None
-  pub feeds : (b ≡ record a { rest = a.rest ++ p }) × (q ≡ [])
-  pub answers : reader.Answers b t answer
+-- the counts of a stream that has refused nothing
+abbrev running : ℕ → ℕ → Tally
+running k l = record { given = k; limit = l; stopped = None }
 
-was : (now : Stream) (a b t : Source) (p q : List ℕ) (u k l : ℕ) (stopped : Option Kind) (answer : NextShot)
-    → Asked now a b t p q u k l stopped answer → fed b u k l None ≡ now
-was now a b t p q u k l stopped answer h =
-    sym (when_fed a b p u k l None h.feeds.0) ∙ ap (λ (o : Option Kind). stream_by a p u k l o) (sym h.runs) ∙ h.view
+-- a stream all of whose bytes were fed, by its counts
+abbrev counted : Source → ℕ → Tally → Stream
+counted s u y = fed s u y.given y.limit y.stopped
 
-answered : (now : Stream) (a b t : Source) (p q : List ℕ) (u k l : ℕ) (stopped : Option Kind) (answer given : NextShot)
-    → Asked now a b t p q u k l stopped answer → answer ≡ given → reader.Answers b t given
-answered now a b t p q u k l stopped answer given h e = subst (λ (n : NextShot). reader.Answers b t n) e h.answers
+-- what the result of the reader says, if the bytes that were fed decide a step
+decides : (a b : Source) (u k l : ℕ) (left : Left) (answer : NextShot) → reader.Answers a b answer
+    → MatchOption (step_after (running k l) answer) ⊤ (Answers (fed a u k l None) (counted b u (tally_after (running k l) answer)) left left)
+decides a b u k l left (next.Shot shot) h = by_test (nat_le l k) refl
+  where
+    by_test : (full : Bool) → nat_le l k ≡ full
+        → Answers (fed a u k l None) (counted b u (if full then stopped_by (running k l) TooManyShots else record (running k l) { given = k + 1 })) left left
+        (if full then refusal_of (running k l) TooManyShots else step.Shot shot)
+    by_test true full = turn_too_many a b shot u k l left h (leb-true l k full)
+    by_test false room = turn_gives a b shot u k l left h (leb-false l k room)
+decides a b u k l left next.NotYet h = tt
+decides a b u k l left next.End h = turn_ends a b u k l left h
+decides a b u k l left (next.Refused why) h = turn_refuses a b why u k l left h
 
-pub shot_turn : (now : Stream) (a b t : Source) (p q : List ℕ) (u k l : ℕ) (stopped : Option Kind) (answer : NextShot) (shot : ShotValue) (left : Left)
-    → Asked now a b t p q u k l stopped answer → answer ≡ next.Shot shot → k < l
-    → GivesShot now (stream_by t q u (k + 1) l stopped) left left shot
-shot_turn now a b t p q u k l stopped answer shot left h e less =
-    let is : fed t u (k + 1) l None ≡ stream_by t q u (k + 1) l stopped =
-    sym (when_empty t q u (k + 1) l None h.feeds.1) ∙ ap (λ (o : Option Kind). stream_by t q u (k + 1) l o) (sym h.runs) in
-    subst₂ (λ (x y : Stream). GivesShot x y left left shot) (was now a b t p q u k l stopped answer h) is
-    (turn_gives b t shot u k l left (answered now a b t p q u k l stopped answer (next.Shot shot) h e) less)
+-- The stream `now` has fed its piece p, of which q is left, to its reader a, and that, b by now, has answered.
+pub record Asked (now : Stream) (a b : Source) (p q : List ℕ) (u : ℕ) (y : Tally) (answer : NextShot) : Type 0 where
+  pub view : stream_by a p u y.given y.limit y.stopped ≡ now
+  pub runs : y.stopped ≡ None
+  pub empty : q ≡ []
+  pub answers : reader.Answers (with_piece a p) b answer
 
-pub end_turn : (now : Stream) (a b t : Source) (p q : List ℕ) (u k l : ℕ) (stopped : Option Kind) (answer : NextShot) (left : Left)
-    → Asked now a b t p q u k l stopped answer → answer ≡ next.End → Ends now (stream_by t q u k l stopped) left left
-end_turn now a b t p q u k l stopped answer left h e =
-    let is : fed t u k l None ≡ stream_by t q u k l stopped =
-    sym (when_empty t q u k l None h.feeds.1) ∙ ap (λ (o : Option Kind). stream_by t q u k l o) (sym h.runs) in
-    subst₂ (λ (x y : Stream). Ends x y left left) (was now a b t p q u k l stopped answer h) is
-    (turn_ends b t u k l left (answered now a b t p q u k l stopped answer next.End h e))
+was : (now : Stream) (a b : Source) (p q : List ℕ) (u : ℕ) (y : Tally) (answer : NextShot) → Asked now a b p q u y answer
+    → fed (with_piece a p) u y.given y.limit None ≡ now
+was now a b p q u y answer h = ap (λ (o : Option Kind). stream_by a p u y.given y.limit o) (sym h.runs) ∙ h.view
 
--- a refusal as the code answers it
-refused_as : (now old new : Stream) (t : Source) (q : List ℕ) (v k l : ℕ) (why : Kind) (before after : Left) (s : Step)
-    → old ≡ now → q ≡ [] → new ≡ stream_by t q v k l (Some why) → s ≡ step.Refused (record { shot = k; kind = why })
-    → Refuses old (fed t v k l (Some why)) before (record { shot = k; kind = why }) → Answers now new before after s
-refused_as now old new t q v k l why before after s old-is empty new-is s-is h =
-    let is : fed t v k l (Some why) ≡ new = sym (new-is ∙ when_empty t q v k l (Some why) empty) in
-    subst (λ (x : Step). Answers now new before after x) (sym s-is)
-    (subst₂ (λ (x y : Stream). Refuses x y before (record { shot = k; kind = why })) old-is is h)
+is_running : (y : Tally) → y.stopped ≡ None → running y.given y.limit ≡ y
+is_running y e = ap (λ (o : Option Kind). record y { stopped = o }) (sym e)
 
-pub too_many_turn : (now new : Stream) (a b t : Source) (p q : List ℕ) (u k l : ℕ) (stopped : Option Kind) (answer : NextShot) (shot : ShotValue) (left : Left) (s : Step)
-    → Asked now a b t p q u k l stopped answer → answer ≡ next.Shot shot → l ≤ k
-    → new ≡ stream_by t q u k l (Some TooManyShots) → s ≡ step.Refused (record { shot = k; kind = TooManyShots })
-    → Answers now new left left s
-too_many_turn now new a b t p q u k l stopped answer shot left s h e full new-is s-is =
-    refused_as now (fed b u k l None) new t q u k l TooManyShots left left s (was now a b t p q u k l stopped answer h) h.feeds.1 new-is s-is
-    (turn_too_many b t shot u k l left (answered now a b t p q u k l stopped answer (next.Shot shot) h e) full)
+pub decided_turn : (now : Stream) (a b : Source) (p q : List ℕ) (u : ℕ) (y z : Tally) (answer : NextShot) (left : Left) (s : Step)
+    → Asked now a b p q u y answer → z ≡ tally_after y answer → step_after y answer ≡ Some s
+    → Answers now (stream_by b q u z.given z.limit z.stopped) left left s
+decided_turn now a b p q u y z answer left s h counts decided =
+    let old : Stream = fed (with_piece a p) u y.given y.limit None in
+    let all : MatchOption (step_after y answer) ⊤ (Answers old (counted b u (tally_after y answer)) left left) =
+    subst (λ (x : Tally). MatchOption (step_after x answer) ⊤ (Answers old (counted b u (tally_after x answer)) left left)) (is_running y h.runs)
+    (decides (with_piece a p) b u y.given y.limit left answer h.answers) in
+    let new : counted b u (tally_after y answer) ≡ stream_by b q u z.given z.limit z.stopped =
+    ap (counted b u) (sym counts) ∙ sym (when_empty b q u z.given z.limit z.stopped h.empty) in
+    subst₂ (λ (x w : Stream). Answers x w left left s) (was now a b p q u y answer h) new
+    (subst (λ (o : Option Step). MatchOption o ⊤ (Answers old (counted b u (tally_after y answer)) left left)) decided all)
 
-pub refused_turn : (now new : Stream) (a b t : Source) (p q : List ℕ) (u k l : ℕ) (stopped : Option Kind) (answer : NextShot) (why : Kind) (left : Left) (s : Step)
-    → Asked now a b t p q u k l stopped answer → answer ≡ next.Refused why
-    → new ≡ stream_by t q u k l (Some why) → s ≡ step.Refused (record { shot = k; kind = why })
-    → Answers now new left left s
-refused_turn now new a b t p q u k l stopped answer why left s h e new-is s-is =
-    refused_as now (fed b u k l None) new t q u k l why left left s (was now a b t p q u k l stopped answer h) h.feeds.1 new-is s-is
-    (turn_refuses b t why u k l left (answered now a b t p q u k l stopped answer (next.Refused why) h e))
+-- a step of a stream that was refused before
+pub stopped_turn : (a : Source) (p : List ℕ) (u k l : ℕ) (stopped : Option Kind) (why : Kind) (left : Left) → stopped ≡ Some why
+    → Refuses (stream_by a p u k l stopped) (stream_by a p u k l stopped) left (record { shot = k; kind = why })
+stopped_turn a p u k l stopped why left e =
+    subst (λ (o : Option Kind). Refuses (stream_by a p u k l o) (stream_by a p u k l o) left (record { shot = k; kind = why })) (sym e) (record {
+      number = refl;
+      gives = each_some (λ x. only (refused why) ≡ only (refused why)) left (λ x. refl);
+      piece = [];
+      room = omega arith;
+      reason = inl refl;
+      stops = refl;
+      again = λ x. refl;
+      others = refl;
+    })
 
-pub too_long_turn : (now new : Stream) (a b t c : Source) (p q r : List ℕ) (u v k l : ℕ) (stopped : Option Kind) (answer : NextShot) (before after : Left) (s : Step)
-    → Asked now a b t p q u k l stopped answer → answer ≡ next.NotYet → ReadsOn t c r u v before after read.TooLong
-    → new ≡ stream_by c r v k l (Some InputTooLong) → s ≡ step.Refused (record { shot = k; kind = InputTooLong })
-    → Answers now new before after s
-too_long_turn now new a b t c p q r u v k l stopped answer before after s h e reads new-is s-is =
-    let asked = answered now a b t p q u k l stopped answer next.NotYet h e in
-    refused_as now (fed b u k l None) new c r v k l InputTooLong before after s (was now a b t p q u k l stopped answer h) reads.1 new-is s-is
-    (turn_too_long b c u v k l before (asked.0, asked.1, reads.0 ∙ asked.2) reads.3 reads.4 reads.2)
+-- ---- a read that follows, as the code has its parts at hand
 
 reads_less : (a c : Source) (piece : List ℕ) (u v k l : ℕ) (stopped : Option Kind) → a.finished ≡ false
     → v + (if c.finished then 0 else 1) < u + 1 → may_read (stream_by c piece v k l stopped) < may_read (fed a u k l None)
 reads_less a c piece u v k l stopped still less =
     omega (arith, cond-false {A = ℕ} a.finished 0 1 still, less)
 
-pub piece_turn : (now : Stream) (a b t c : Source) (p q r : List ℕ) (u v k l : ℕ) (stopped : Option Kind) (answer : NextShot) (before after : Left)
-    → Asked now a b t p q u k l stopped answer → answer ≡ next.NotYet → ReadsOn t c r u v before after read.Piece
-    → OnlyTakes now (stream_by c r v k l stopped) before after × (may_read (stream_by c r v k l stopped) < may_read now)
-piece_turn now a b t c p q r u v k l stopped answer before after h e reads =
-    let asked = answered now a b t p q u k l stopped answer next.NotYet h e in
-    let is : stream_by c r v k l None ≡ stream_by c r v k l stopped = ap (λ (o : Option Kind). stream_by c r v k l o) (sym h.runs) in
-    let old = was now a b t p q u k l stopped answer h in
-    let still : c.finished ≡ false = ap (λ (s : Source). s.finished) (reads.0 ∙ asked.2) ∙ asked.0 in
+-- a stream that may still read, before and after a read that decides nothing
+abbrev ReadsMore : Stream → Stream → Left → Left → Type 0
+ReadsMore old new before after = OnlyTakes old new before after × (may_read new < may_read old)
+
+reads_piece : (a b c : Source) (r : List ℕ) (u v k l : ℕ) (before after : Left) → reader.Answers a b next.NotYet
+    → ReadsOn b c r u v before after read.Piece → ReadsMore (fed a u k l None) (stream_by c r v k l None) before after
+reads_piece a b c r u v k l before after h reads =
+    let still : c.finished ≡ false = ap (λ (s : Source). s.finished) (reads.0 ∙ h.2) ∙ h.0 in
     let some : 0 < length r = reads.2 in
     let room : u ≡ v + length r = reads.3 in (
-      subst₂ (λ (x y : Stream). OnlyTakes x y before after) old is (turn_takes b t c u v k l before after r asked reads.0 reads.1 reads.3),
-      subst (λ (x : Stream). may_read (stream_by c r v k l stopped) < may_read x) old
-          (reads_less b c r u v k l stopped asked.0 (omega (arith, cond-false {A = ℕ} c.finished 0 1 still))),
+      turn_takes a b c u v k l before after r h reads.0 reads.1 reads.3,
+      reads_less a c r u v k l None h.0 (omega (arith, cond-false {A = ℕ} c.finished 0 1 still)),
     )
 
-pub fault_turn : (now : Stream) (a b t c : Source) (p q r : List ℕ) (u v k l : ℕ) (stopped : Option Kind) (answer : NextShot) (before after : Left)
-    → Asked now a b t p q u k l stopped answer → answer ≡ next.NotYet → ReadsOn t c r u v before after read.Fault
-    → FailsToRead now (stream_by c r v k l stopped) before after
-fault_turn now a b t c p q r u v k l stopped answer before after h e reads =
-    let asked = answered now a b t p q u k l stopped answer next.NotYet h e in
-    let is : stream_by c r v k l None ≡ stream_by c r v k l stopped = ap (λ (o : Option Kind). stream_by c r v k l o) (sym h.runs) in
-    subst₂ (λ (x y : Stream). FailsToRead x y before after) (was now a b t p q u k l stopped answer h) is
-    (turn_fails b t c u v k l before after r asked reads.0 reads.1 reads.2 reads.3)
+-- at the file's end nothing follows, and all bytes are there
+follows_finished : (a : Source) (u k l : ℕ) → a.finished ≡ false → follows (fed a u k l None) [] ≡ follows (fed (record a { finished = true }) u k l None) []
+follows_finished a u k l still =
+    follows_open a u k l [] still
+    ∙ ap (capped_shots (l - k)) (cond-true (nat_le 0 u) _ _ (le-leb 0 u (omega arith)) ∙ ap (records_of a.format a.graph) (append-nil a.rest))
+
+takes_end : (a : Source) (u k l : ℕ) (before after : Left) → a.finished ≡ false → Consumes before after [] → IsAtEnd after
+    → OnlyTakes (fed a u k l None) (fed (record a { finished = true }) u k l None) before after
+takes_end a u k l before after still taken end = record {
+  piece = [];
+  taken = taken;
+  rest = sym (append-nil a.rest);
+  room = refl;
+  gives = given before after taken end;
+  end = λ _ _. read_out before after taken end;
+  ended = λ done. absurd (both_ways a.finished still done);
+  unread = λ done. absurd (both_ways a.finished still done);
+  others = refl;
+}
+  where
+    given : (before after : Left) → Consumes before after [] → IsAtEnd after
+        → IfKnown (λ x y. follows (fed a u k l None) x ≡ follows (fed (record a { finished = true }) u k l None) y) before after
+    given None after taken end = tt
+    given (Some x) None taken end = absurd taken
+    given (Some x) (Some y) taken end =
+        subst₂ (λ (v w : List ℕ). follows (fed a u k l None) v ≡ follows (fed (record a { finished = true }) u k l None) w) (sym (taken ∙ end)) (sym end)
+        (follows_finished a u k l still)
+
+    read_out : (before after : Left) → Consumes before after [] → IsAtEnd after → IsReadOut before after
+    read_out None after taken end = tt
+    read_out (Some x) None taken end = absurd taken
+    read_out (Some x) (Some y) taken end = end
+
+reads_end : (a b c : Source) (r : List ℕ) (u v k l : ℕ) (before after : Left) → reader.Answers a b next.NotYet
+    → ReadsOn b c r u v before after read.End → ReadsMore (fed a u k l None) (stream_by c r v k l None) before after
+reads_end a b c r u v k l before after h reads =
+    let is : stream_by c r v k l None ≡ fed (record a { finished = true }) u k l None =
+    when_empty c r v k l None reads.1
+    ∙ ap (λ (s : Source). fed s v k l None) (reads.0 ∙ ap (λ (s : Source). record s { finished = true }) h.2)
+    ∙ ap (λ (n : ℕ). fed (record a { finished = true }) n k l None) reads.4 in
+    subst (λ (x : Stream). ReadsMore (fed a u k l None) x before after) (sym is) (
+      takes_end a u k l before after h.0 reads.2 reads.3,
+      omega (arith, cond-false {A = ℕ} a.finished 0 1 h.0),
+    )
+
+-- what a read has done, after a result that decides nothing
+reads_on : (a b c : Source) (r : List ℕ) (u v k l : ℕ) (before after : Left) (outcome : Read) → reader.Answers a b next.NotYet
+    → ReadsOn b c r u v before after outcome
+    → let y = tally_after_read (running k l) outcome in
+    MatchOption (step_after_read (running k l) outcome) (ReadsMore (fed a u k l None) (stream_by c r v y.given y.limit y.stopped) before after)
+    (Answers (fed a u k l None) (stream_by c r v y.given y.limit y.stopped) before after)
+reads_on a b c r u v k l before after read.Piece h reads = reads_piece a b c r u v k l before after h reads
+reads_on a b c r u v k l before after read.End h reads = reads_end a b c r u v k l before after h reads
+reads_on a b c r u v k l before after read.Fault h reads = turn_fails a b c u v k l before after r h reads.0 reads.1 reads.2 reads.3
+reads_on a b c r u v k l before after read.TooLong h reads =
+    subst (λ (x : Stream). Refuses (fed a u k l None) x before (record { shot = k; kind = InputTooLong }))
+    (sym (when_empty c r v k l (Some InputTooLong) reads.1))
+    (turn_too_long a c u v k l before (h.0, h.1, reads.0 ∙ h.2) reads.3 reads.4 reads.2)
+
+undecided : (y : Tally) (answer : NextShot) → step_after y answer ≡ None → answer ≡ next.NotYet
+undecided y (next.Shot shot) e = absurd cc
+undecided y next.NotYet e = refl
+undecided y next.End e = absurd cc
+undecided y (next.Refused why) e = absurd cc
+
+pub read_turn : (now : Stream) (a b c : Source) (p q r : List ℕ) (u v : ℕ) (y x z : Tally) (answer : NextShot) (before after : Left) (outcome : Read)
+    → Asked now a b p q u y answer → x ≡ tally_after y answer → step_after y answer ≡ None
+    → ReadsOn b c r u v before after outcome → z ≡ tally_after_read x outcome
+    → MatchOption (step_after_read x outcome) (ReadsMore now (stream_by c r v z.given z.limit z.stopped) before after)
+    (Answers now (stream_by c r v z.given z.limit z.stopped) before after)
+read_turn now a b c p q r u v y x z answer before after outcome h counts open_ reads counts_read =
+    let none : answer ≡ next.NotYet = undecided y answer open_ in
+    let same : running y.given y.limit ≡ x = is_running y h.runs ∙ sym (counts ∙ ap (tally_after y) none) in
+    let old : Stream = fed (with_piece a p) u y.given y.limit None in
+    let new : Tally → Stream = λ w. stream_by c r v w.given w.limit w.stopped in
+    subst₂ (λ (s t : Stream). MatchOption (step_after_read x outcome) (ReadsMore s t before after) (Answers s t before after))
+    (was now a b p q u y answer h) (ap new (sym counts_read))
+    (subst (λ (w : Tally). MatchOption (step_after_read w outcome) (ReadsMore old (new (tally_after_read w outcome)) before after)
+    (Answers old (new (tally_after_read w outcome)) before after)) same
+    (reads_on (with_piece a p) b c r u v y.given y.limit before after outcome (subst (λ (n : NextShot). reader.Answers (with_piece a p) b n) none h.answers) reads))
+
+-- a turn ends by a fault exactly if its read does
+pub read_faults : {E : Type 0} (y : Tally) (outcome : Read) (r : Result (Option Step) E) (f f' : ℕ) → r ≡ Ok (step_after_read y outcome)
+    → CountsFault (outcome ≡ read.Fault) f f' → CountsFault (r ≡ Ok (Some step.ReadFault)) f f'
+read_faults y read.Piece r f f' is h = (λ e. absurd cc, h.1, λ _. h.2 (λ e. absurd cc))
+read_faults y read.End r f f' is h = (λ e. absurd cc, h.1, λ _. h.2 (λ e. absurd cc))
+read_faults y read.Fault r f f' is h = (λ _. h.0 refl, h.1, λ other. absurd (other is))
+read_faults y read.TooLong r f f' is h = (λ e. absurd cc, h.1, λ _. h.2 (λ e. absurd cc))

@@ -12,6 +12,10 @@ pub record Source : Type 0 where
   pub rest : List ℕ
   pub finished : Bool
 
+-- a reader once this piece is fed
+abbrev pub with_piece : Source → List ℕ → Source
+with_piece source piece = record source { rest = source.rest ++ piece }
+
 -- a stream by its reader and the bytes that were read and not fed yet
 abbrev pub stream_by : Source → (unfed : List ℕ) → (untaken given limit : ℕ) → Option Kind → Stream
 stream_by source unfed untaken given limit stopped = record {

@@ -6,4 +6,5 @@ pub mod Streams
 pub mod InternalSources
 pub mod Steps
 pub mod InternalReads
+pub mod InternalTallies
 pub mod FaultTexts

@@ -7,6 +7,7 @@ mod mapping;
 mod pieces;
 mod reader;
 mod stream;
+mod tally;
 
 pub use answer::{Format, Kind, NoMemory, ShotFault, Step};
 pub use laws::goes_on;

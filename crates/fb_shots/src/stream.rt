@@ -3,13 +3,16 @@
 ghost use Rattle.std.specs.Prelude.{◌≡◌, ℕ, ◌+◌, ◌-◌, ◌<◌, ◌++◌, [], List, true, Ok, Some, None, IfOk, OnOk, OnErr, MatchOption};
 ghost use Rattle.fb_ports.specs.Causes.{CountsFault};
 ghost use Rattle.fb_shots.specs.Streams.{Stream, follows, fresh, most_bytes, stream_of};
+ghost use Rattle.fb_shots.specs.InternalAnswers.{Answers as ReaderAnswers};
 ghost use Rattle.fb_shots.specs.InternalReads.{ReadsOn, may_read};
+ghost use Rattle.fb_shots.specs.InternalSources.{with_piece};
 ghost use Rattle.fb_shots.specs.Steps.{Answers, OnlyTakes};
 
-use crate::answer::{Format, Kind, NoMemory, ShotFault, Step};
+use crate::answer::{Format, Kind, NoMemory, Step};
 use crate::pieces::Piece;
 use crate::reader::Reader;
-use fb_graph::Graph;
+use crate::tally::Tally;
+use fb_graph::{Graph, Shot};
 use fb_ports::Files;
 use fb_records::Next;
 use std::alloc::Global;
@@ -25,10 +28,7 @@ pub struct ShotStream<'a> {
     piece: Piece,
     /// How many bytes may still be taken.
     untaken: u64,
-    given: u32,
-    limit: u32,
-    /// What was refused. Nothing is given any more.
-    stopped: Option<Kind>,
+    tally: Tally,
 }
 
 impl<'a> Model for ShotStream<'a> {
@@ -38,7 +38,7 @@ impl<'a> Model for ShotStream<'a> {
 
     ghost Value = { Stream };
 
-    ghost view = { λ s. stream_by s.reader s.piece s.untaken s.given s.limit s.stopped };
+    ghost view = { λ s. stream_by s.reader s.piece s.untaken s.tally.given s.tally.limit s.tally.stopped };
 
     ghost invariant = { λ s. s.reader.finished ≡ true → s.piece ≡ [] };
 }
@@ -55,13 +55,16 @@ impl<'a> ShotStream<'a> {
         ensures whole { IfOk result (λ s. (bytes : List ℕ)
             → follows s bytes ≡ stream_of format graph.now limit most_bytes bytes) }
     {
+        let piece = Piece::new(alloc)?;
         Ok(ShotStream {
             reader: Reader::new(alloc, format, graph),
-            piece: Piece::new(alloc)?,
+            piece,
             untaken: MOST_BYTES,
-            given: 0,
-            limit,
-            stopped: None,
+            tally: Tally {
+                given: 0,
+                limit,
+                stopped: None,
+            },
         })
     }
 
@@ -95,46 +98,28 @@ impl<'a> ShotStream<'a> {
         ensures names { F.named files.new ≡ F.named files.old }
         ensures asks { F.asked files.new ≡ F.asked files.old }
     {
-        if let Some(kind) = self.stopped {
-            return Ok(Some(refusal(self.given, kind)));
+        if let Some(kind) = self.tally.stopped {
+            return Ok(Some(self.tally.refusal(kind)));
         }
-        feed(&mut self.reader, &mut self.piece)?;
-        match self.reader.next()? {
-            Next::Shot(shot) => {
-                if self.given >= self.limit {
-                    return Ok(Some(self.refuse(Kind::TooManyShots)));
-                }
-                self.given += 1;
-                Ok(Some(Step::Shot(shot)))
-            }
-            Next::End => Ok(Some(Step::End)),
-            Next::Refused(kind) => Ok(Some(self.refuse(kind))),
-            Next::NotYet => {
-                match read_on(&mut self.reader, &mut self.piece, &mut self.untaken, files) {
-                    Read::Piece => Ok(None),
-                    Read::End => Ok(None),
-                    Read::Fault => Ok(Some(Step::ReadFault)),
-                    Read::TooLong => Ok(Some(self.refuse(Kind::InputTooLong))),
-                }
-            }
+        let answer = ask(&mut self.reader, &mut self.piece)?;
+        if let Some(step) = self.tally.step_after(answer) {
+            return Ok(Some(step));
         }
-    }
-
-    /// Refuses the next record and all that follow.
-    fn refuse(&mut self, kind: Kind) -> Step
-        ensures step { result ≡ Step.Refused (record { shot = self.old.given; kind = kind }) }
-        ensures stops { self.new ≡ record self.old { stopped = Some kind } }
-    {
-        self.stopped = Some(kind);
-        refusal(self.given, kind)
+        let read = read_on(&mut self.reader, &mut self.piece, &mut self.untaken, files);
+        Ok(self.tally.step_after_read(read))
     }
 }
 
-/// The refusal in place of this shot.
-fn refusal(shot: u32, kind: Kind) -> Step
-    ensures { result ≡ Step.Refused (record { shot = shot; kind = kind }) }
+/// Asks the reader, once it is fed the piece that was read. No byte is lost without memory.
+fn ask(reader: &mut Reader<'_>, piece: &mut Piece) -> Result<Next<Shot, Kind>, NoMemory>
+    requires { reader.old.finished ≡ true → piece.old ≡ [] }
+    ensures meaning { IfOk result (ReaderAnswers (with_piece reader.old piece.old) reader.new) }
+    ensures fed { OnOk result (piece.new ≡ []) }
+    ensures err { OnErr result (with_piece reader.new piece.new ≡ with_piece reader.old piece.old) }
+    ensures unfed { reader.new.finished ≡ true → piece.new ≡ [] }
 {
-    Step::Refused(ShotFault { shot, kind })
+    feed(reader, piece)?;
+    reader.next()
 }
 
 /// Feeds the reader the piece that was read. Without memory nothing changes.
@@ -153,7 +138,8 @@ fn feed(reader: &mut Reader<'_>, piece: &mut Piece) -> Result<(), NoMemory>
 }
 
 /// The outcome of a read.
-enum Read {
+#[derive(Drop)]
+pub enum Read {
     /// A piece of the file.
     Piece,
     /// The file's end.
