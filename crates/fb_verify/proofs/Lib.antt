@@ -1,3 +1,4 @@
+pub mod Adding
 pub mod Certified
 pub mod Continued
 pub mod Goods
