@@ -5,7 +5,7 @@ use Rattle.std.proofs.lemmas.Bool.{cases_Bool, cond-true, cond-false, both_ways,
 use Rattle.std.specs.Io.KnownBytes.{Consumes, IsAtEnd, Keeps}
 use Rattle.std.proofs.KnownBytes.{Consumes-nil}
 use Rattle.fb_graph.specs.Limits.{ShotValue}
-use Rattle.fb_ports.specs.Causes.{CountsFault}
+use Rattle.fb_ports.specs.Causes.{CountsFault, Rose}
 use Rattle.fb_shots.specs.declared.answer.Kind.{Kind}
 use Rattle.fb_shots.specs.declared.answer.Kind.TheVariants.{TooManyShots, InputTooLong}
 use Rattle.fb_shots.specs.declared.answer.Step.{Step}
@@ -316,11 +316,32 @@ decided_turn now a b p q u y z answer left s h counts decided =
     subst₂ (λ (x w : Stream). Answers x w left left s) (was now a b p q u y answer h) new
     (subst (λ (o : Option Step). MatchOption o ⊤ (Answers old (counted b u (tally_after y answer)) left left)) decided all)
 
--- a step of a stream that was refused before
-pub stopped_turn : (a : Source) (p : List ℕ) (u k l : ℕ) (stopped : Option Kind) (why : Kind) (left : Left) → stopped ≡ Some why
-    → Refuses (stream_by a p u k l stopped) (stream_by a p u k l stopped) left (record { shot = k; kind = why })
-stopped_turn a p u k l stopped why left e =
-    subst (λ (o : Option Kind). Refuses (stream_by a p u k l o) (stream_by a p u k l o) left (record { shot = k; kind = why })) (sym e) (record {
+-- a result that decides a step is no fault
+no_fault : (y : Tally) (answer : NextShot) → step_after y answer ≡ Some step.ReadFault → ⊥
+no_fault y (next.Shot shot) e = by_test (nat_le y.limit y.given) e
+  where
+    by_test : (full : Bool) → Some (if full then refusal_of y TooManyShots else step.Shot shot) ≡ Some step.ReadFault → ⊥
+    by_test true e = cc
+    by_test false e = cc
+no_fault y next.NotYet e = cc
+no_fault y next.End e = cc
+no_fault y (next.Refused why) e = cc
+
+pub decided_faults : {E : Type 0} (y : Tally) (answer : NextShot) (s : Step) (f : ℕ) → step_after y answer ≡ Some s
+    → CountsFault (◌≡◌ {A = Result (Option Step) E} (Ok (Some s)) (Ok (Some step.ReadFault))) f f
+decided_faults {E} y answer s f decided = (is_none, omega arith, λ _. refl)
+  where
+    is_none : ◌≡◌ {A = Result (Option Step) E} (Ok (Some s)) (Ok (Some step.ReadFault)) → Rose f f
+    is_none is = (let same : s ≡ step.ReadFault = cc in absurd (no_fault y answer (decided ∙ ap Some same)))
+
+-- a stream that has refused a record refuses it again
+pub stopped_turn : (now : Stream) (a : Source) (p : List ℕ) (u : ℕ) (y : Tally) (why : Kind) (left : Left) (s : Step)
+    → stream_by a p u y.given y.limit y.stopped ≡ now → y.stopped ≡ Some why → s ≡ refusal_of y why → Answers now now left left s
+stopped_turn now a p u y why left s view stopped refuses =
+    subst₂ (λ (x : Stream) (t : Step). Answers x x left left t) (ap (stream_by a p u y.given y.limit) (sym stopped) ∙ view) (sym refuses) again
+  where
+    again : Refuses (stream_by a p u y.given y.limit (Some why)) (stream_by a p u y.given y.limit (Some why)) left (record { shot = y.given; kind = why })
+    again = record {
       number = refl;
       gives = each_some (λ x. only (refused why) ≡ only (refused why)) left (λ x. refl);
       piece = [];
@@ -329,7 +350,7 @@ stopped_turn a p u k l stopped why left e =
       stops = refl;
       again = λ x. refl;
       others = refl;
-    })
+    }
 
 -- ---- a read that follows, as the code has its parts at hand
 

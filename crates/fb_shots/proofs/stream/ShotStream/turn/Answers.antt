@@ -1,6 +1,11 @@
 use Rattle.std.proofs.Common.{Ok, ap, sym, ◌∙◌}
-use Rattle.fb_shots.proofs.Turns.{decided_turn, read_faults, read_turn}
+use Rattle.fb_shots.proofs.Turns.{decided_faults, decided_turn, read_faults, read_turn, stopped_turn}
 use Rattle.fb_shots.proofs.stream.ShotStream.turn.Goals as goal
+
+pub returns-in-Some-clause-step : goal.returns-in-Some-clause-step
+returns-in-Some-clause-step g c =
+    stopped_turn _ c.self.inside.reader c.self.inside.piece c.self.inside.untaken c.self.inside.tally c.in-Some.kind _ _
+    c.self.view_is c.in-Some.is c.refusal.ensures
 
 pub returns-in-Some-step_after-clause-step : goal.returns-in-Some-step_after-clause-step
 returns-in-Some-step_after-clause-step g c =
@@ -8,6 +13,10 @@ returns-in-Some-step_after-clause-step g c =
     c.in_ok-answer.answer _ _
     (record { view = c.self.view_is; runs = c.in_default.is; empty = c.in_ok-answer.ensures.fed; answers = c.in_ok-answer.ensures.meaning })
     c.step_after.ensures.counts (sym c.step_after.ensures.step ∙ c.in-Some-step_after.is)
+
+pub returns-in-Some-step_after-clause-faults : goal.returns-in-Some-step_after-clause-faults
+returns-in-Some-step_after-clause-faults g c =
+    decided_faults c.self.inside.tally c.in_ok-answer.answer _ _ (sym c.step_after.ensures.step ∙ c.in-Some-step_after.is)
 
 pub returns-clause-step : goal.returns-clause-step
 returns-clause-step g c =
