@@ -119,3 +119,6 @@ def memory(qubits, checks, coordinates, logical, rounds, rate, measurement_rate=
         if layer < rounds:
             errors += [Error(wrong_outcome, (k, k + len(checks)), ()) for k in range(first, first + len(checks))]
     return Code(errors, [(*place, layer) for layer in range(rounds + 1) for place in coordinates], 1)
+
+
+CODES = {"repetition": repetition_code, "surface": surface_code}

@@ -1,0 +1,77 @@
+"""Reads the rows of a report one by one, also while it is written: a row ends where its cuts add up to its weight."""
+
+from collections import namedtuple
+
+HEAD = b"fusion-report 1\n"
+MOST_BYTES = 1 << 30
+
+# The words of a row's edges, and its weight; both None where the shot has no correction.
+Row = namedtuple("Row", "edges weight")
+ODD = Row(None, None)
+
+
+class ReportError(ValueError):
+    """A text that isn't a whole report."""
+
+
+class Unfinished(ReportError):
+    """A report that ends before its last line, so its run didn't come to its end."""
+
+
+class ReportTooLong(ReportError):
+    """A report of more bytes than may be read."""
+
+
+class Rows:
+    """The rows of a report that is open for reading; how many came, and how many of them were odd."""
+
+    def __init__(self, report, most_bytes=None):
+        self.report, self.most_bytes = report, most_bytes
+        self.shots = self.odd = self.bytes = 0
+        if self.next_line() != HEAD:
+            raise ReportError("not a report of version 1")
+
+    def next_line(self):
+        line = self.report.readline()
+        if line[-1:] != b"\n":
+            raise Unfinished("the report has no done line, so its run didn't come to its end")
+        self.bytes += len(line)
+        if self.most_bytes is not None and self.bytes > self.most_bytes:
+            raise ReportTooLong(f"the report has more than {self.most_bytes} bytes")
+        return line
+
+    def next_row(self):
+        """The next row; None at the report's last line."""
+        line = self.next_line()
+        if line == b"shot %d\n" % self.shots:
+            self.shots += 1
+            return self.correction()
+        if line.startswith(b"shot %d odd " % self.shots):
+            self.shots += 1
+            self.odd += 1
+            return ODD
+        if line.startswith(b"done %d odd %d " % (self.shots, self.odd)):
+            return None
+        raise self.wrong(line)
+
+    def correction(self):
+        """What follows the first line of a row: its edges, its weight and its cuts."""
+        word, *edges = self.next_line().split()
+        line = self.next_line()
+        name, _, number = line.partition(b" ")
+        if word != b"edges" or name != b"weight":
+            raise self.wrong(line)
+        weight = left = int(number)
+        while left > 0:
+            line = self.next_line()
+            name, value, *_ = line.split(None, 2)
+            if name != b"cut":
+                raise self.wrong(line)
+            left -= int(value)
+        return Row(edges, weight)
+
+    def wrong(self, line):
+        return ReportError(f"shot {self.shots} of the report: a line that begins with {line[:40]!r}")
+
+    def __iter__(self):
+        return iter(self.next_row, None)
