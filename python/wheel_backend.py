@@ -12,7 +12,7 @@ METADATA = f"""\
 Metadata-Version: 2.1
 Name: {NAME}
 Version: {VERSION}
-Summary: Detector error models, codes and shots for the exact decoder fusion
+Summary: Decoders for sinter, detector error models, codes and shots around the exact decoder fusion
 Requires-Python: >=3.9
 """
 

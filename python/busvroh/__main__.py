@@ -15,6 +15,7 @@ from busvroh.program import NOT_BUILT, ProgramMissing, RunError, find_program
 from busvroh.rows import ReportError
 
 PROGRESS_SECONDS = 5
+PART_BYTES = 1 << 20  # smaller than by default, so that progress is told often
 DEFAULT_RATES = {
     "repetition": "0.04,0.06,0.08,0.1,0.12,0.14,0.16",
     "surface": "0.01,0.015,0.02,0.025,0.03,0.035,0.04",
@@ -105,8 +106,8 @@ def add_count(commands):
 
 
 def count_files(asked):
-    skip, part_bytes = asked.skip_hyperedges, 1 << 20
-    settings = settings_of(asked, scale=asked.scale, skip_hyperedges=skip, part_bytes=part_bytes)
+    skip = asked.skip_hyperedges
+    settings = settings_of(asked, scale=asked.scale, skip_hyperedges=skip, part_bytes=PART_BYTES)
     with open(asked.dem, encoding="utf-8", errors="surrogateescape") as model:
         text = model.read()
     decoding = Decoding(text.splitlines(), settings)
@@ -115,7 +116,7 @@ def count_files(asked):
         count = counting.count_errors(decoding, parts, progress())
     print(count.table(), end="", flush=True)
     if asked.csv:
-        write_csv(asked.csv, count.csv_row({"dem": asked.dem}, text))
+        write_csv(asked.csv, count.csv_row({"dem": asked.dem}, f"{asked.scale} {skip} {text}"))
 
 
 def pairs(asked, decoding, files):

@@ -119,7 +119,7 @@ class Count:
 
     def csv_row(self, metadata, identity):
         """A row in sinter's columns. Rows of one identity, a text, are counts of the same thing."""
-        name = hashlib.sha256(identity.encode()).hexdigest()
+        name = hashlib.sha256(identity.encode(errors="surrogateescape")).hexdigest()
         counts = json.dumps({"odd": self.odd}, separators=(",", ":")) if self.odd else ""
         line = io.StringIO()
         words = [json.dumps(metadata, separators=(",", ":"), sort_keys=True), counts]
