@@ -50,13 +50,8 @@ def add_command(commands, name, run, text):
     return command
 
 
-def add_decoder(command):
+def add_program(command):
     command.add_argument("--program", metavar="NAME", help="fusion (default: by FUSION, or of this repository)")
-    command.add_argument("--processes", type=whole_number(1), default=1, metavar="N", help="run at once (default: 1)")
-
-
-def settings_of(asked, **others):
-    return Settings(find_program(asked.program), asked.processes, **others)
 
 
 # sample
@@ -102,12 +97,13 @@ def add_count(commands):
     count.add_argument("--csv", metavar="NAME", help="add a row in sinter's columns to this file; - is standard output")
     count.add_argument("--scale", type=float, default=DEFAULT_SCALE, help=f"of the weights (default: {DEFAULT_SCALE})")
     count.add_argument("--skip-hyperedges", action="store_true", help="leave out parts of more than two detectors")
-    add_decoder(count)
+    count.add_argument("--processes", type=whole_number(1), default=1, metavar="N", help="run at once (default: 1)")
+    add_program(count)
 
 
 def count_files(asked):
-    skip = asked.skip_hyperedges
-    settings = settings_of(asked, scale=asked.scale, skip_hyperedges=skip, part_bytes=PART_BYTES)
+    fusion, skip = find_program(asked.program), asked.skip_hyperedges
+    settings = Settings(fusion, asked.processes, asked.scale, skip_hyperedges=skip, part_bytes=PART_BYTES)
     with open(asked.dem, encoding="utf-8", errors="surrogateescape") as model:
         text = model.read()
     decoding = Decoding(text.splitlines(), settings)
@@ -179,11 +175,11 @@ def add_threshold(commands):
     draw.add_argument("--shots", type=whole_number(1), default=1000, metavar="N", help="of each point (default: 1000)")
     draw.add_argument("--seed", default="0", help="the same seed gives the same shots (default: 0)")
     draw.add_argument("picture", type=Path, help="gets the curves; standard output gets the counts in sinter's columns")
-    add_decoder(draw)
+    add_program(draw)
 
 
 def draw_threshold(asked):
-    settings, points = settings_of(asked), []
+    settings, points = Settings(find_program(asked.program)), []
     print(counting.CSV_HEADER, end="", flush=True)
     for name, rates in {"repetition": asked.repetition_rates, "surface": asked.surface_rates}.items():
         for distance in asked.distances:

@@ -76,11 +76,14 @@ def split(values, detectors):
 
 def parts_of(decoding, pairs):
     """Shots and their flips in parts that can be decoded."""
-    size, flips_size = decoding.shot_bytes, decoding.observables.size
-    pairs = iter(pairs)
-    while some := list(islice(pairs, decoding.part_shots)):
-        bits = b"".join(detectors.to_bytes(size, "little") for detectors, _ in some)
-        yield TrueFlips(Part(len(some), bits), b"".join(flipped.to_bytes(flips_size, "little") for _, flipped in some))
+    pairs, shots = iter(pairs), -1
+    while shots:
+        bits, true, shots = bytearray(), bytearray(), 0
+        for shots, (detectors, flipped) in enumerate(islice(pairs, decoding.part_shots), 1):
+            bits += detectors.to_bytes(decoding.shot_bytes, "little")
+            true += flipped.to_bytes(decoding.observables.size, "little")
+        if shots:
+            yield TrueFlips(Part(shots, bits), true)
 
 
 # Counts.

@@ -22,7 +22,7 @@ class Observables:
         for observable, edges in enumerate(lists):
             for edge in edges:
                 word = b"%d" % edge
-                self.of_edge[word] = self.of_edge.get(word, 0) ^ 1 << observable
+                self.of_edge[word] = self.of_edge.get(word, 0) | 1 << observable
 
     def flipped_by(self, edges):
         """The observables that an odd number of edges flips, as the bits of a number. Edges are words of a report."""
