@@ -68,6 +68,8 @@ class Rows:
             if name != b"cut":
                 raise self.wrong(line)
             left -= int(value)
+        if left < 0:
+            raise self.wrong(line)
         return Row(edges, weight)
 
     def wrong(self, line):
