@@ -14,6 +14,11 @@ from busvroh.models import DEFAULT_SCALE, ModelError
 from busvroh.program import NOT_BUILT, ProgramMissing, RunError, find_program
 from busvroh.rows import ReportError
 
+EXAMPLES = {
+    "sample": "--code surface --distance 3 --rounds 3 --rate 0.02 --shots 1000 sample",
+    "count": "--dem sample/model.dem --shots sample/shots.b8 --flips sample/flips.01",
+    "threshold": "--distances 3,5 --shots 100 threshold.svg",
+}
 PROGRESS_SECONDS = 5
 PART_BYTES = 1 << 20  # smaller than by default, so that progress is told often
 DEFAULT_RATES = {
@@ -45,7 +50,9 @@ def several(kind):
 
 
 def add_command(commands, name, run, text):
-    command = commands.add_parser(name, help=text, description=f"{text[0].upper()}{text[1:]}.")
+    texts = {"description": f"{text[0].upper()}{text[1:]}.", "epilog": f"example:\n  python3 -m busvroh {name} {EXAMPLES[name]}"}
+    formatter = argparse.RawDescriptionHelpFormatter
+    command = commands.add_parser(name, help=text, formatter_class=formatter, **texts)
     command.set_defaults(run=run)
     return command
 
