@@ -1,4 +1,4 @@
-"""Shots of codes, and the observables that their lightest corrections flip, found apart from the program: by every set of edges."""
+"""Shots of codes, and the observables that their lightest corrections flip, found by every set of edges."""
 
 import collections
 import sys
