@@ -6,29 +6,30 @@ ghost use Rattle.fb_regions.specs.InternalPlaces.{IsIndex};
 
 use crate::NodeId;
 use crate::marks::{Mark, Marks};
-use crate::places::{set_place, widen};
+use crate::places::{enter, make_room};
 use crate::region::Region;
 use fb_graph::NoMemory;
 use fb_links::names::{Names, names_of};
 use std::alloc::Global;
 
-/// Puts nodes behind the others, one after another, under the new names that the list has beside their old ones. Returns
-/// these names by the old ones.
+/// Takes nodes out of their list and puts them behind the others, one after another, under the new names that the second
+/// list has beside their old ones. Returns these names by the old ones.
 pub fn take_nodes(
     alloc: Global,
     regions: &mut Vec<Region>,
     places: &mut Vec<Option<usize>>,
-    others: Vec<Region>,
+    others: &mut Vec<Region>,
     nodes: &[(NodeId, NodeId)],
 ) -> Result<Names, NoMemory>
-    requires distinct { AreDistinct (map (λ r. r.name) (regions.old.items ++ renamed_regions (name_by nodes.now) others.items)) }
+    requires distinct { AreDistinct (map (λ r. r.name) (regions.old.items ++ renamed_regions (name_by nodes.now) others.old.items)) }
     requires index { IsIndex regions.old.items places.old.items }
     ensures names { IfOk result (λ names. (a : ℕ) → name_by names a ≡ name_by nodes.now a) }
-    ensures nodes { OnOk result (regions.new.items ≡ regions.old.items ++ renamed_regions (name_by nodes.now) others.items) }
+    ensures nodes { OnOk result (regions.new.items ≡ regions.old.items ++ renamed_regions (name_by nodes.now) others.old.items) }
     ensures index { OnOk result (IsIndex regions.new.items places.new.items) }
 {
     let names = names_of(alloc, nodes)?;
-    for region in others {
+    others.reverse();
+    while let Some(region) = others.pop() {
         take_node(regions, places, region, &names)?;
     }
     Ok(names)
@@ -47,10 +48,8 @@ fn take_node(
     region.name = names.of(region.name);
     region.parent = names.of_option(region.parent);
     rename_all(&mut region.children, names);
-    regions.reserve(1)?;
-    widen(places, region.name)?;
-    set_place(places, region.name, Some(regions.len()));
-    regions.push_reserved(region);
+    make_room(regions, places, region.name)?;
+    enter(regions, places, region);
     Ok(())
 }
 

@@ -20,7 +20,7 @@ ghost use Rattle.fb_regions.specs.Moves.{BeginsWith, IsOver, IsSourceWalk, absor
 use crate::listing::list_together;
 use crate::marks::{Hop, Mark, Marks};
 use crate::merging::{take_marks, take_nodes};
-use crate::places::{enter_from, place_of, set_place, widen};
+use crate::places::{enter, enter_from, make_room, place_of, set_place};
 use crate::region::{self, Region, adopt, climb_from, root_of};
 use crate::{Layer, NodeId, Step, Walk};
 use fb_graph::{NoMemory, Scope};
@@ -200,13 +200,13 @@ impl<S: Scope> Regions<S> {
         } = left;
         let Regions {
             scope: _,
-            regions: others,
+            regions: mut others,
             places: other_places,
             marks: more,
         } = right;
-        let names = take_nodes(alloc, &mut regions, &mut places, others, nodes)?;
+        let names = take_nodes(alloc, &mut regions, &mut places, &mut others, nodes)?;
         take_marks(alloc, &mut marks, &more, &names)?;
-        let spare = SpareRegions::from_used(Vec::new(alloc), other_places, more);
+        let spare = SpareRegions::from_used(others, other_places, more);
         let merged = Regions {
             scope: *scope,
             regions,
@@ -241,8 +241,7 @@ impl<S: Scope> Regions<S> {
         ensures ok { OnOk result (self.new ≡ record { scope = self.old.scope; nodes = self.old.nodes ++ leaf node v ∷ [] }) }
         ensures err { OnErr result (self.new ≡ self.old) }
     {
-        self.regions.reserve(1)?;
-        widen(&mut self.places, node)?;
+        make_room(&mut self.regions, &mut self.places, node)?;
         let mark = Mark {
             source: v,
             leaf: node,
@@ -253,9 +252,7 @@ impl<S: Scope> Regions<S> {
             under: 0,
         };
         self.marks.put(alloc, v, mark)?;
-        let place = self.regions.len();
-        set_place(&mut self.places, node, Some(place));
-        self.regions.push_reserved(Region {
+        let leaf = Region {
             name: node,
             children: Vec::new(alloc),
             parent: None,
@@ -266,7 +263,8 @@ impl<S: Scope> Regions<S> {
             last: v,
             top_value: 0,
             radius: 0,
-        });
+        };
+        enter(&mut self.regions, &mut self.places, leaf);
         Ok(())
     }
 
@@ -283,14 +281,11 @@ impl<S: Scope> Regions<S> {
         ensures err { OnErr result (self.new ≡ self.old) }
     {
         self.scope.limits();
+        make_room(&mut self.regions, &mut self.places, node)?;
         let names = Vec::from_slice(alloc, children)?;
-        self.regions.reserve(1)?;
-        widen(&mut self.places, node)?;
         let listing = list_together(&self.places, &self.regions, &mut self.marks, children);
-        let place = self.regions.len();
         adopt(&self.places, &mut self.regions, children, Some(node));
-        set_place(&mut self.places, node, Some(place));
-        self.regions.push_reserved(Region {
+        let blossom = Region {
             name: node,
             children: names,
             parent: None,
@@ -301,7 +296,8 @@ impl<S: Scope> Regions<S> {
             last: listing.last,
             top_value: 0,
             radius: 0,
-        });
+        };
+        enter(&mut self.regions, &mut self.places, blossom);
         Ok(())
     }
 

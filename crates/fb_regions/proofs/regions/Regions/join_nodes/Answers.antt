@@ -1,4 +1,5 @@
-use Rattle.std.proofs.Common.{◌≡◌, length, refl, ap, ◌∙◌, Some}
+use Rattle.std.proofs.Common.{length, refl, ap, ◌∙◌, Some}
+use Rattle.std.proofs.lemmas.List.{length-map}
 use Rattle.fb_graph.specs.Moves.{joined_nodes}
 use Rattle.fb_regions.specs.InternalNodes.{reparented_region}
 use Rattle.fb_regions.proofs.Found.{mapped_back}
@@ -9,25 +10,25 @@ use Rattle.fb_regions.proofs.regions.Regions.join_nodes.Goals as goal
 
 pub list_together-listing-requires-clause-index : goal.list_together-listing-requires-clause-index
 list_together-listing-requires-clause-index g c =
-    rw (c.deref-2.ensures.value, c.in_ok-reserve.ensures.items, c.deref.ensures.value) (index_same _ _ _ c.self.invariant.1 c.widen.ensures.same)
+    rw (c.deref-2.ensures.value, c.make_room.ensures.nodes, c.deref.ensures.value) (index_same _ _ _ c.self.invariant.1 c.make_room.ensures.same)
 
 pub list_together-listing-requires-clause-fits : goal.list_together-listing-requires-clause-fits
 list_together-listing-requires-clause-fits g c =
-    rw (c.deref-2.ensures.value, c.in_ok-reserve.ensures.items)
+    rw (c.deref-2.ensures.value, c.make_room.ensures.nodes)
     (together_fits _ _ _ c.self.invariant.0 c.args.node c.args.children.now (rw (← c.self.view_is) at c.requires) c.limits.ensures)
 
 pub adopt-requires-clause-distinct : goal.adopt-requires-clause-distinct
-adopt-requires-clause-distinct g c = rw (c.deref_mut.ensures.value, c.in_ok-reserve.ensures.items) (distinct_names _ _ _ c.self.invariant.0)
+adopt-requires-clause-distinct g c = rw (c.deref_mut.ensures.value, c.make_room.ensures.nodes) (distinct_names _ _ _ c.self.invariant.0)
 
 pub invariant_of-self-2 : goal.invariant_of-self-2
 invariant_of-self-2 g c =
     let may = rw (← c.self.view_is) at c.requires in
     let is =
     together _ _ _ c.self.invariant.0 c.args.node c.args.children.now may _ _
-    (rw (c.deref-2.ensures.value, c.in_ok-reserve.ensures.items) at c.list_together-listing.ensures) in
-    let count : c.len-place.result ≡ length c.self.inside.regions.items =
-    c.len-place.ensures ∙ (c.reserve.new.self.ok.0 ∙ ap length c.in_ok-reserve.ensures.items) in (
-      rw (c.push_reserved.ensures.items, c.adopt.ensures, c.deref_mut.ensures.value, c.in_ok-reserve.ensures.items, mapped_back (reparented_region c.args.children.now (Some c.args.node)) c.self.inside.regions.items c.reserve.new.self.len (c.reserve.new.self.ok.0 ∙ ap length c.in_ok-reserve.ensures.items))
+    (rw (c.deref-2.ensures.value, c.make_room.ensures.nodes) at c.list_together-listing.ensures) in
+    let entry =
+    rw (c.adopt.ensures, c.deref_mut.ensures.value, c.make_room.ensures.nodes, mapped_back (reparented_region c.args.children.now (Some c.args.node)) c.self.inside.regions.items c.make_room.new.regions.len (c.make_room.new.regions.ok.0 ∙ ap length c.make_room.ensures.nodes)) at c.enter.ensures.entry in (
+      rw (c.enter.ensures.nodes, c.adopt.ensures, c.deref_mut.ensures.value, c.make_room.ensures.nodes, mapped_back (reparented_region c.args.children.now (Some c.args.node)) c.self.inside.regions.items c.make_room.new.regions.len (c.make_room.new.regions.ok.0 ∙ ap length c.make_room.ensures.nodes))
           (kept_joined _ _ _ is.kept c.args.node c.args.children.now _
           (record {
             name_is = refl;
@@ -41,9 +42,10 @@ invariant_of-self-2 g c =
             radius = refl;
           })
           is.may),
-      rw (c.push_reserved.ensures.items, c.adopt.ensures, c.deref_mut.ensures.value, c.in_ok-reserve.ensures.items, mapped_back (reparented_region c.args.children.now (Some c.args.node)) c.self.inside.regions.items c.reserve.new.self.len (c.reserve.new.self.ok.0 ∙ ap length c.in_ok-reserve.ensures.items))
-          (index_joined c.self.inside.marks c.self.inside.regions.items c.self.inside.places.items c.widen.new.places.items c.set_place.new.places.items
-          c.args.children.now (Some c.args.node) _ c.len-place.result c.self.invariant.1 c.widen.ensures.same count may.fresh c.set_place.ensures.entries),
+      rw (c.enter.ensures.nodes, c.adopt.ensures, c.deref_mut.ensures.value, c.make_room.ensures.nodes, mapped_back (reparented_region c.args.children.now (Some c.args.node)) c.self.inside.regions.items c.make_room.new.regions.len (c.make_room.new.regions.ok.0 ∙ ap length c.make_room.ensures.nodes))
+          (index_joined c.self.inside.marks c.self.inside.regions.items c.self.inside.places.items c.make_room.new.places.items c.enter.new.places.items
+          c.args.children.now (Some c.args.node) _ _ c.self.invariant.1 c.make_room.ensures.same
+          (length-map c.self.inside.regions.items (reparented_region c.args.children.now (Some c.args.node))) may.fresh entry),
     )
 
 pub returns-clause-ok : goal.returns-clause-ok
@@ -51,8 +53,8 @@ returns-clause-ok g c =
     let may = rw (← c.self.view_is) at c.requires in
     let is =
     together _ _ _ c.self.invariant.0 c.args.node c.args.children.now may _ _
-    (rw (c.deref-2.ensures.value, c.in_ok-reserve.ensures.items) at c.list_together-listing.ensures) in
-    rw (← c.self.view_is, c.push_reserved.ensures.items, c.adopt.ensures, c.deref_mut.ensures.value, c.in_ok-reserve.ensures.items, mapped_back (reparented_region c.args.children.now (Some c.args.node)) c.self.inside.regions.items c.reserve.new.self.len (c.reserve.new.self.ok.0 ∙ ap length c.in_ok-reserve.ensures.items))
+    (rw (c.deref-2.ensures.value, c.make_room.ensures.nodes) at c.list_together-listing.ensures) in
+    rw (← c.self.view_is, c.enter.ensures.nodes, c.adopt.ensures, c.deref_mut.ensures.value, c.make_room.ensures.nodes, mapped_back (reparented_region c.args.children.now (Some c.args.node)) c.self.inside.regions.items c.make_room.new.regions.len (c.make_room.new.regions.ok.0 ∙ ap length c.make_room.ensures.nodes))
     (ap (λ ns. record { scope = c.self.inside.scope; nodes = ns })
     (nodes_joined _ _ _ is.kept c.args.node c.args.children.now _
     (record {
