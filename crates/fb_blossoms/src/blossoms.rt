@@ -1,5 +1,6 @@
-ghost use Rattle.std.specs.Prelude.{◌≡◌, ◌≢◌, ℕ, nat_eq, [], reverse, true, false, IfNone, IfOk, IfSome, OnErr, Some};
-ghost use Rattle.std.specs.HashMap.{get};
+ghost use Rattle.std.specs.Prelude.{◌≡◌, ◌≢◌, ℕ, [], reverse, true, false, IfNone, IfOk, IfSome, OnErr, Some};
+ghost use Rattle.std.specs.Ordering.{nat_cmp};
+ghost use Rattle.std.specs.BTreeMap.{get};
 ghost use Rattle.fb_links.specs.Lists.{is_in};
 ghost use Rattle.fb_blossoms.specs.Links.{AllLinked, AreLinked};
 ghost use Rattle.fb_blossoms.specs.Paths.{IsEvenPath};
@@ -15,7 +16,7 @@ use crate::legs::{Nest, even_path};
 use crate::{CycleStep, LinkId, Links, NoMemory, NodeId};
 use slab::Slab;
 use std::alloc::Global;
-use std::collections::HashMap;
+use std::collections::BTreeMap;
 use std::marker::Model;
 
 /// A store of nodes. A leaf is one defect; a blossom is an odd cycle of nodes, its children, with the links between
@@ -25,14 +26,15 @@ use std::marker::Model;
 pub struct Blossoms {
     nodes: Slab<Entry>,
     /// The leaf of each defect.
-    leaves: HashMap<u32, NodeId>,
+    leaves: BTreeMap<u32, NodeId>,
     /// The number of nodes made so far.
     made: u64,
 }
 
 impl Model for Blossoms {
-    ghost use Rattle.std.specs.Prelude.{List, Option, nat_eq};
-    ghost use Rattle.std.specs.HashMap.{get};
+    ghost use Rattle.std.specs.Prelude.{List, Option};
+    ghost use Rattle.std.specs.Ordering.{nat_cmp};
+    ghost use Rattle.std.specs.BTreeMap.{get};
     ghost use Rattle.fb_blossoms.specs.Nodes.{Node, table_code};
     ghost use Rattle.fb_blossoms.specs.InternalForest.{IsKept, nodes_of};
 
@@ -42,7 +44,7 @@ impl Model for Blossoms {
 
     ghost view = { λ b. nodes_of b.nodes.slots };
 
-    ghost invariant = { λ b. IsKept b.nodes.slots (get nat_eq b.leaves) b.made };
+    ghost invariant = { λ b. IsKept b.nodes.slots (get nat_cmp b.leaves) b.made };
 }
 
 impl Blossoms {
@@ -52,7 +54,7 @@ impl Blossoms {
     {
         Ok(Blossoms {
             nodes: Slab::new(alloc),
-            leaves: HashMap::new(alloc),
+            leaves: BTreeMap::new(alloc),
             made: 0,
         })
     }
@@ -265,8 +267,8 @@ impl Blossoms {
 }
 
 /// The leaf of the defect.
-fn leaf_of(leaves: &HashMap<u32, NodeId>, defect: u32) -> Option<NodeId>
-    ensures { result ≡ get nat_eq leaves.now defect }
+fn leaf_of(leaves: &BTreeMap<u32, NodeId>, defect: u32) -> Option<NodeId>
+    ensures { result ≡ get nat_cmp leaves.now defect }
 {
     leaves.get(&defect).copied()
 }

@@ -1,7 +1,9 @@
-use Rattle.std.proofs.Common.{length, refl, ap, ◌∙◌, Some}
+use Rattle.std.proofs.Common.{length, refl, sym, ap, ◌∙◌, subst, Some}
 use Rattle.std.proofs.lemmas.List.{length-map}
 use Rattle.fb_graph.specs.Moves.{joined_nodes}
-use Rattle.fb_regions.specs.InternalNodes.{reparented_region}
+use Rattle.fb_regions.specs.InternalKept.{IsKept}
+use Rattle.fb_regions.specs.InternalNodes.{nodes_of, reparented_region}
+use Rattle.fb_regions.specs.InternalPlaces.{IsIndex}
 use Rattle.fb_regions.proofs.Found.{mapped_back}
 use Rattle.fb_regions.proofs.Indexed.{distinct_names, index_joined, index_same}
 use Rattle.fb_regions.proofs.Joined.{nodes_joined, kept_joined}
@@ -22,13 +24,15 @@ adopt-requires-clause-distinct g c = rw (c.deref_mut.ensures.value, c.make_room.
 
 pub invariant_of-self-2 : goal.invariant_of-self-2
 invariant_of-self-2 g c =
+    let f = reparented_region c.args.children.now (Some c.args.node) in
     let may = rw (← c.self.view_is) at c.requires in
     let is =
     together _ _ _ c.self.invariant.0 c.args.node c.args.children.now may _ _
     (rw (c.deref-2.ensures.value, c.make_room.ensures.nodes) at c.list_together-listing.ensures) in
-    let entry =
-    rw (c.adopt.ensures, c.deref_mut.ensures.value, c.make_room.ensures.nodes, mapped_back (reparented_region c.args.children.now (Some c.args.node)) c.self.inside.regions.items c.make_room.new.regions.len (c.make_room.new.regions.ok.0 ∙ ap length c.make_room.ensures.nodes)) at c.enter.ensures.entry in (
-      rw (c.enter.ensures.nodes, c.adopt.ensures, c.deref_mut.ensures.value, c.make_room.ensures.nodes, mapped_back (reparented_region c.args.children.now (Some c.args.node)) c.self.inside.regions.items c.make_room.new.regions.len (c.make_room.new.regions.ok.0 ∙ ap length c.make_room.ensures.nodes))
+    let back = mapped_back f c.self.inside.regions.items c.make_room.new.regions.len (c.make_room.new.regions.ok.0 ∙ ap length c.make_room.ensures.nodes) in
+    let nodes = rw (c.adopt.ensures, c.deref_mut.ensures.value, c.make_room.ensures.nodes, back) at c.enter.ensures.nodes in
+    let entry = rw (c.adopt.ensures, c.deref_mut.ensures.value, c.make_room.ensures.nodes, back) at c.enter.ensures.entry in (
+      subst (λ l. IsKept (g.S.Scope.problem c.self.inside.scope) l c.list_together-listing.new.marks) (sym nodes)
           (kept_joined _ _ _ is.kept c.args.node c.args.children.now _
           (record {
             name_is = refl;
@@ -42,21 +46,25 @@ invariant_of-self-2 g c =
             radius = refl;
           })
           is.may),
-      rw (c.enter.ensures.nodes, c.adopt.ensures, c.deref_mut.ensures.value, c.make_room.ensures.nodes, mapped_back (reparented_region c.args.children.now (Some c.args.node)) c.self.inside.regions.items c.make_room.new.regions.len (c.make_room.new.regions.ok.0 ∙ ap length c.make_room.ensures.nodes))
+      subst (λ l. IsIndex l c.enter.new.places.items) (sym nodes)
           (index_joined c.self.inside.marks c.self.inside.regions.items c.self.inside.places.items c.make_room.new.places.items c.enter.new.places.items
           c.args.children.now (Some c.args.node) _ _ c.self.invariant.1 c.make_room.ensures.same
-          (length-map c.self.inside.regions.items (reparented_region c.args.children.now (Some c.args.node))) may.fresh entry),
+          (length-map c.self.inside.regions.items f) may.fresh entry),
     )
 
 pub returns-clause-ok : goal.returns-clause-ok
 returns-clause-ok g c =
+    let f = reparented_region c.args.children.now (Some c.args.node) in
     let may = rw (← c.self.view_is) at c.requires in
     let is =
     together _ _ _ c.self.invariant.0 c.args.node c.args.children.now may _ _
     (rw (c.deref-2.ensures.value, c.make_room.ensures.nodes) at c.list_together-listing.ensures) in
-    rw (← c.self.view_is, c.enter.ensures.nodes, c.adopt.ensures, c.deref_mut.ensures.value, c.make_room.ensures.nodes, mapped_back (reparented_region c.args.children.now (Some c.args.node)) c.self.inside.regions.items c.make_room.new.regions.len (c.make_room.new.regions.ok.0 ∙ ap length c.make_room.ensures.nodes))
+    let back = mapped_back f c.self.inside.regions.items c.make_room.new.regions.len (c.make_room.new.regions.ok.0 ∙ ap length c.make_room.ensures.nodes) in
+    let nodes = rw (c.adopt.ensures, c.deref_mut.ensures.value, c.make_room.ensures.nodes, back) at c.enter.ensures.nodes in
+    rw (← c.self.view_is)
     (ap (λ ns. record { scope = c.self.inside.scope; nodes = ns })
-    (nodes_joined _ _ _ is.kept c.args.node c.args.children.now _
+    (ap (nodes_of c.list_together-listing.new.marks) nodes
+    ∙ (nodes_joined _ _ _ is.kept c.args.node c.args.children.now _
     (record {
       name_is = refl;
       children_are = c.in_ok-names.ensures.items;
@@ -69,4 +77,4 @@ returns-clause-ok g c =
       radius = refl;
     })
     is.may
-    ∙ ap (joined_nodes c.args.node c.args.children.now) is.nodes_are))
+    ∙ ap (joined_nodes c.args.node c.args.children.now) is.nodes_are)))
