@@ -1,4 +1,4 @@
-ghost use Rattle.std.specs.Prelude.{◌≡◌, ◌<◌, ◌≤◌, ◌==◌, ℕ, true, false, if◌then◌else◌, [], ◌∷◌, ◌++◌, length, All, OnOk, OnErr};
+ghost use Rattle.std.specs.Prelude.{◌≡◌, ◌<◌, ◌≤◌, ◌==◌, ℕ, true, false, if◌then◌else◌, [], ◌∷◌, ◌++◌, length, vec_capacity, All, OnOk, OnErr};
 ghost use Rattle.std.specs.List.Sorted.{IsPermutation};
 ghost use Rattle.fb_graph.specs.Parity.{is_in};
 ghost use Rattle.fb_half.specs.InternalStandings.{standing_of};
@@ -123,9 +123,7 @@ impl Matching {
         ensures err { OnErr result (self.new ≡ self.old) }
     {
         // The vectors grow by the allocator that they were made with.
-        self.matches.reserve(1)?;
-        self.links.reserve(1)?;
-        widen_names(&mut self.standings, m)?;
+        make_room(&mut self.matches, &mut self.links, &mut self.standings, m)?;
         let place = self.matches.len();
         set_names(&mut self.standings, m, Standing::Matched(place));
         self.matches.push_reserved(m);
@@ -206,6 +204,25 @@ fn widen_names(standings: &mut Vec<Standing>, m: Match) -> Result<(), NoMemory>
         Some(second) => widen(standings, second),
         None => Ok(()),
     }
+}
+
+/// Gives the lists and the table room for one match more.
+fn make_room(
+    matches: &mut Vec<Match>,
+    links: &mut Vec<LinkId>,
+    standings: &mut Vec<Standing>,
+    m: Match,
+) -> Result<(), NoMemory>
+    ensures matches { matches.new.items ≡ matches.old.items }
+    ensures links { links.new.items ≡ links.old.items }
+    ensures same { (k : ℕ) → standing_of standings.new.items k ≡ standing_of standings.old.items k }
+    ensures matches_room { OnOk result (length matches.new.items < vec_capacity matches.new) }
+    ensures links_room { OnOk result (length links.new.items < vec_capacity links.new) }
+    ensures within { OnOk result (All (λ name. name < length standings.new.items) (names_of m)) }
+{
+    matches.reserve(1)?;
+    links.reserve(1)?;
+    widen_names(standings, m)
 }
 
 /// Sets the entry of a name that the table has one for.
