@@ -1,4 +1,4 @@
-ghost use Rattle.std.specs.Prelude.{◌≡◌, ◌≤◌, ◌<◌, ◌==◌, ◌||◌, [], ℕ, None, Some, All, OnOk, length, if◌then◌else◌};
+ghost use Rattle.std.specs.Prelude.{◌≡◌, ◌≤◌, ◌<◌, ◌==◌, ◌||◌, [], ℕ, None, Some, All, OnOk, length, vec_capacity, if◌then◌else◌};
 ghost use Rattle.fb_regions.specs.InternalPlaces.{place_in};
 ghost use Rattle.fb_trees.specs.Branches.{entries_of};
 ghost use Rattle.fb_trees.specs.InternalPlaces.{ArePlaces, IsWithin};
@@ -29,8 +29,23 @@ pub fn make_room_for_all(places: &mut Places, branches: &[Branch]) -> Result<(),
     Ok(())
 }
 
+/// Makes room for the branch behind the others, and for both of its nodes.
+pub fn make_room_behind(
+    branches: &mut Vec<Branch>,
+    places: &mut Places,
+    branch: &Branch,
+) -> Result<(), NoMemory>
+    ensures branches { branches.new.items ≡ branches.old.items }
+    ensures same { (name : ℕ) → place_in places.new.items name ≡ place_in places.old.items name }
+    ensures list { OnOk result (length branches.new.items < vec_capacity branches.new) }
+    ensures room { OnOk result (IsWithin (length places.new.items) branch.now) }
+{
+    branches.reserve(1)?;
+    make_room(places, branch)
+}
+
 /// Makes room for both nodes of the branch.
-pub fn make_room(places: &mut Places, branch: &Branch) -> Result<(), NoMemory>
+fn make_room(places: &mut Places, branch: &Branch) -> Result<(), NoMemory>
     ensures same { (name : ℕ) → place_in places.new.items name ≡ place_in places.old.items name }
     ensures longer { length places.old.items ≤ length places.new.items }
     ensures room { OnOk result (IsWithin (length places.new.items) branch.now) }

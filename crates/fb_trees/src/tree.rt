@@ -11,7 +11,7 @@ ghost use Rattle.fb_trees.specs.InternalPlaces.{branch_at};
 
 use crate::changes::{joined_branches, names_of, opened_branches, renamed_name};
 use crate::places::{
-    Places, enter, enter_all, make_room, make_room_for_all, place_in, take_out_all,
+    Places, enter, enter_all, make_room_behind, make_room_for_all, place_in, take_out_all,
 };
 use crate::steps::{branches_beside, cycle_along, last_plus, push_step, push_up, shared_count};
 use crate::{Branch, CycleStep, LinkId, Links, NoMemory, NodeId, Role, Roles};
@@ -108,8 +108,7 @@ impl Tree {
             plus: matched.node,
         };
         // The table and the list grow by the allocator that they were made with.
-        make_room(&mut self.places, &branch)?;
-        self.branches.reserve(1)?;
+        make_room_behind(&mut self.branches, &mut self.places, &branch)?;
         enter(&mut self.places, &branch, self.branches.len());
         self.branches.push_reserved(branch);
         Ok(())
