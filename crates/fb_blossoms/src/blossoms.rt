@@ -59,7 +59,7 @@ impl Blossoms {
         })
     }
 
-    /// The store without nodes, in the room of this one. Its time is that of the most nodes that the room ever held. Takes
+    /// The store without nodes, in the room of this one. Its time is that of the most nodes that this one held at once. Takes
     /// no memory.
     pub fn into_empty(self) -> Blossoms
         ensures { result ≡ [] }

@@ -1,4 +1,4 @@
-use Rattle.std.proofs.Common.{◌≡◌, ◌<◌, length, refl, ap}
+use Rattle.std.proofs.Common.{◌<◌, length, refl, ap}
 use Rattle.fb_regions.proofs.Indexed.{fresh_name, index_pushed, index_same}
 use Rattle.fb_regions.proofs.Opened.{kept_opened, opened_nodes}
 use Rattle.fb_regions.proofs.regions.Regions.open_leaf.Goals as goal
