@@ -7,3 +7,5 @@ pub mod PlaceLemmas
 pub mod FirstRecords
 pub mod ShotLemmas
 pub mod WordBits
+pub mod LemmasR8
+pub mod FirstRuns

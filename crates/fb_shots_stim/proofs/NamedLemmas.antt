@@ -13,6 +13,7 @@ use Rattle.std.proofs.lemmas.List.Sums.{sum_by-cons, sum_by_push}
 use Rattle.std.proofs.lemmas.List.Sorted.{All-permutation, IsNonDecreasingBy-from_sort, sum_by-IsPermutation, list_any-IsPermutation}
 use Rattle.fb_shots_stim.specs.TextDets.{is_digit, number_from, rising}
 use Rattle.fb_shots_stim.specs.InternalWordsDets.{times, IsMarked}
+use Rattle.fb_shots_stim.specs.InternalRises.{Rises}
 
 -- ---- indices
 
@@ -92,10 +93,6 @@ marked_more n marks named index m size lt new = record {
 }
 
 -- ---- the rising list
-
-abbrev pub Rises : ℕ → ℕ → List ℕ → Type 0
-Rises low high [] = Unit {0}
-Rises low high (x ∷ xs) = (low ≤ x) × (x < high) × Rises (x + 1) high xs
 
 rises_above : (k low high : ℕ) (xs : List ℕ) → Rises low high xs → k < low → list_any (eqb k) xs ≡ false
 rises_above k low high [] r lt = refl

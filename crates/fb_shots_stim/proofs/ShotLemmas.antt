@@ -16,7 +16,7 @@ use Rattle.fb_shots_stim.specs.Text01.{is_bit, is_one, line_01, records_01}
 use Rattle.fb_shots_stim.specs.BlocksB8.{block_len, bits_of, is_set, block_b8, whole_blocks, records_b8}
 use Rattle.fb_shots_stim.specs.TextDets.{with_words, words_of, rising, shot_of, line_dets, records_dets}
 use Rattle.fb_shots_stim.proofs.LemmasDets.{Words}
-use Rattle.fb_shots_stim.proofs.NamedLemmas.{Rises}
+use Rattle.fb_shots_stim.specs.InternalRises.{Rises}
 
 -- ---- rising lists
 
@@ -36,7 +36,7 @@ rises_below : (low high : ℕ) (xs : List ℕ) → Rises low high xs → All (λ
 rises_below low high [] r = All-nil (λ k. k < high)
 rises_below low high (x ∷ xs) r = All-cons (λ k. k < high) x xs r.1 (rises_below (x + 1) high xs r.2)
 
-rises_shot : (n : ℕ) (shot : List ℕ) → Rises 0 n shot → IsShotOf n shot
+pub rises_shot : (n : ℕ) (shot : List ℕ) → Rises 0 n shot → IsShotOf n shot
 rises_shot n shot r = record { rising = rises_up 0 n shot r; below = rises_below 0 n shot r }
 
 places_rise : (p : ℕ → Bool) (i n : ℕ) (xs : List ℕ) → i + length xs ≤ n → Rises i n (places_from p i xs)

@@ -3,6 +3,9 @@ pub mod Text01
 pub mod InternalStep01
 pub mod BlocksB8
 pub mod TextDets
+pub mod RunsR8
 pub mod InternalWordsDets
+pub mod InternalRises
+pub mod InternalRuns
 pub mod InternalAnswers
 pub mod FaultTexts
