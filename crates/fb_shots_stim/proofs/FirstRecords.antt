@@ -1,6 +1,6 @@
 -- What is left of an input without its first record.
 use Rattle.std.specs.Prelude.{if◌then◌else◌}
-use Rattle.std.proofs.Common.{◌≡◌, ℕ, zero, suc, ◌≤◌, Bool, true, false, List, [], ◌∷◌, ◌++◌, length, take, drop, Option, Some, None, Result, Ok, Err, refl, sym, ap, ◌∙◌, inl, inr}
+use Rattle.std.proofs.Common.{◌≡◌, ℕ, zero, suc, ◌≤◌, Bool, true, false, List, [], ◌∷◌, ◌++◌, length, take, drop, Option, Some, None, Result, Ok, Err, sym, ap, subst, subst₂, ◌∙◌, inl, inr}
 use Rattle.std.specs.List.{list_any}
 use Rattle.std.proofs.lemmas.Bool.{cases_Bool, cases_lt, cond-true, cond-false}
 use Rattle.fb_records.specs.Records.{Records, with_first_shot}
@@ -14,9 +14,12 @@ use Rattle.fb_shots_stim.specs.declared.answer.Kind.TheVariants.{BadByte, ShortR
 use Rattle.fb_shots_stim.specs.Shots.{places_from}
 use Rattle.fb_shots_stim.specs.Text01.{line_01, begun_01, is_one, records_01, prefix_01}
 use Rattle.fb_shots_stim.specs.BlocksB8.{block_len, bits_of, is_set, records_b8, prefix_b8}
-use Rattle.fb_shots_stim.specs.TextDets.{line_dets, begun_dets, words_of, shot_of, records_dets, prefix_dets, is_nothing, is_blank, after_record}
+use Rattle.fb_shots_stim.specs.TextDets.{records_dets, prefix_dets, after_record}
+use Rattle.fb_shots_stim.specs.TextHits.{records_hits, prefix_hits}
+use Rattle.fb_shots_stim.specs.InternalParts.{PartRules, line_by_parts, begun_by_parts, records_by_parts, prefix_by_parts, is_skipped, after_by_parts, dets_rules, hits_rules}
 use Rattle.fb_shots_stim.proofs.LemmasB8.{prefix_short, block_gives}
-use Rattle.fb_shots_stim.proofs.LemmasDets.{Words, no_words, some_words, shot_none}
+use Rattle.fb_shots_stim.proofs.LemmasDets.{records_as_dets, prefix_as_dets, after_as_dets}
+use Rattle.fb_shots_stim.proofs.LemmasHits.{records_as_hits, prefix_as_hits, after_as_hits}
 
 -- ---- `01`
 
@@ -38,23 +41,24 @@ leaves_01 n bytes shot shots e =
     (record { skips = λ line more h none. absurd (never_skipped n (without_return line) none); takes = λ line more s h some. after_line_one line more h })
     bytes shot shots e
 
--- ---- `dets`
+-- ---- lines of parts
 
-shot_some : (n : ℕ) (r : Words) (shot : List ℕ) → shot_of n r ≡ Ok (Some shot) → (named : List ℕ) × (r ≡ Ok (Some named))
-shot_some n (Ok None) shot e = absurd cc
-shot_some n (Ok (Some named)) shot e = (named, refl)
-shot_some n (Err kind) shot e = absurd cc
+leaves_parts : (rules : PartRules) → FirstRecordLeaves (records_by_parts rules) (prefix_by_parts rules) (after_by_parts rules)
+leaves_parts rules n bytes shot shots e =
+    let blank = bare (λ (line : List ℕ). is_skipped (line_by_parts rules n line)) in
+    leaves_first (bare (line_by_parts rules n)) (bare (begun_by_parts rules n)) (after_by_parts rules n)
+    (record { skips = λ line more h none. blank_after blank line more h (ap is_skipped none); takes = λ line more s h some. record_after blank line more h (ap is_skipped some) })
+    bytes shot shots e
 
 pub leaves_dets : FirstRecordLeaves records_dets prefix_dets (λ n. after_record)
-leaves_dets n bytes shot shots e =
-    leaves_first (bare (line_dets n)) (bare (begun_dets n)) after_record
-    (record {
-      skips = λ line more h none. blank_after (bare is_blank) line more h (ap is_nothing (no_words n (words_of (without_return line)) (shot_none n _ none)));
-      takes = λ line more s h some.
-          let named = shot_some n _ s some in
-          record_after (bare is_blank) line more h (some_words n (words_of (without_return line)) named.0 named.1);
-    })
-    bytes shot shots e
+leaves_dets =
+    subst₂ (λ (r p : ℕ → List ℕ → Records (List ℕ) Kind). FirstRecordLeaves r p (λ n. after_record)) records_as_dets prefix_as_dets
+    (subst (λ (a : ℕ → List ℕ → List ℕ). FirstRecordLeaves (records_by_parts dets_rules) (prefix_by_parts dets_rules) a) after_as_dets (leaves_parts dets_rules))
+
+pub leaves_hits : FirstRecordLeaves records_hits prefix_hits (λ n. after_line)
+leaves_hits =
+    subst₂ (λ (r p : ℕ → List ℕ → Records (List ℕ) Kind). FirstRecordLeaves r p (λ n. after_line)) records_as_hits prefix_as_hits
+    (subst (λ (a : ℕ → List ℕ → List ℕ). FirstRecordLeaves (records_by_parts hits_rules) (prefix_by_parts hits_rules) a) after_as_hits (leaves_parts hits_rules))
 
 -- ---- `b8`
 

@@ -1,7 +1,9 @@
 pub mod Lemmas01
 pub mod LemmasB8
+pub mod LemmasParts
+pub mod StopsParts
 pub mod LemmasDets
-pub mod StopsDets
+pub mod LemmasHits
 pub mod NamedLemmas
 pub mod PlaceLemmas
 pub mod FirstRecords

@@ -11,8 +11,8 @@ use Rattle.std.proofs.lemmas.List.Folds.{list_any-append}
 use Rattle.std.proofs.lemmas.List.Elements.{All-push, All-head, All-tail}
 use Rattle.std.proofs.lemmas.List.Sums.{sum_by-cons, sum_by_push}
 use Rattle.std.proofs.lemmas.List.Sorted.{All-permutation, IsNonDecreasingBy-from_sort, sum_by-IsPermutation, list_any-IsPermutation}
-use Rattle.fb_shots_stim.specs.TextDets.{is_digit, number_from, rising}
-use Rattle.fb_shots_stim.specs.InternalWordsDets.{times, IsMarked}
+use Rattle.fb_shots_stim.specs.NamedDetectors.{is_digit, number_from, rising}
+use Rattle.fb_shots_stim.specs.InternalParts.{times, IsMarked}
 use Rattle.fb_shots_stim.specs.InternalRises.{Rises}
 
 -- ---- indices

@@ -14,8 +14,7 @@ use Rattle.fb_records.specs.Lines.{lines_of, bare, without_return}
 use Rattle.fb_records.specs.Answers.{Gives}
 use Rattle.fb_shots_stim.specs.Text01.{is_bit, is_one, line_01, records_01}
 use Rattle.fb_shots_stim.specs.BlocksB8.{block_len, bits_of, is_set, block_b8, whole_blocks, records_b8}
-use Rattle.fb_shots_stim.specs.TextDets.{with_words, words_of, rising, shot_of, line_dets, records_dets}
-use Rattle.fb_shots_stim.proofs.LemmasDets.{Words}
+use Rattle.fb_shots_stim.specs.NamedDetectors.{rising}
 use Rattle.fb_shots_stim.specs.InternalRises.{Rises}
 
 -- ---- rising lists
@@ -79,12 +78,9 @@ judged_b8 n block =
     cond_both _ (Err PaddingBit) (Ok (Some (places_from is_set 0 bits))) (IfJudged n) (λ _. tt)
     (λ _. rises_shot n (places_from is_set 0 bits) (places_rise is_set 0 n bits (omega (arith, length-take n (bits_of block)))))
 
-judged_dets : (n : ℕ) (line : List ℕ) → IfJudged n (line_dets n line)
-judged_dets n line = by_words n (with_words n (Ok None) (words_of line)) where
-  by_words : (n : ℕ) (r : Words) → IfJudged n (shot_of n r)
-  by_words n (Ok None) = tt
-  by_words n (Ok (Some named)) = rises_shot n (rising n named) (filter_range_rises (λ k. list_any (eqb k) named) 0 n n (omega arith))
-  by_words n (Err kind) = tt
+-- the detectors named are a shot
+pub rising_shot : (n : ℕ) (named : List ℕ) → IsShotOf n (rising n named)
+rising_shot n named = rises_shot n (rising n named) (filter_range_rises (λ k. list_any (eqb k) named) 0 n n (omega arith))
 
 -- ---- what a text holds
 
@@ -103,9 +99,6 @@ pub shots_b8 : (n : ℕ) (bytes : List ℕ) → All (IsShotOf n) (records_b8 n b
 shots_b8 zero [] = All-nil (IsShotOf 0)
 shots_b8 zero (b ∷ bytes) = All-nil (IsShotOf 0)
 shots_b8 (suc n) bytes = all_judged (suc n) (block_b8 (suc n)) (judged_b8 (suc n)) (whole_blocks (block_len (suc n)) bytes) _
-
-pub shots_dets : (n : ℕ) (bytes : List ℕ) → All (IsShotOf n) (records_dets n bytes).shots
-shots_dets n bytes = all_judged n (bare (line_dets n)) (λ line. judged_dets n (without_return line)) (lines_of bytes) at_end
 
 -- a shot that is given is one of the text's
 pub given_shot : (n : ℕ) (records prefix : List ℕ → Records (List ℕ) Kind) (old new : Reader ℕ) (shot : List ℕ) → ((bytes : List ℕ) → All (IsShotOf n) (records bytes).shots) → Gives records prefix old new shot → IsShotOf n shot

@@ -2,9 +2,11 @@ pub mod Shots
 pub mod Text01
 pub mod InternalStep01
 pub mod BlocksB8
+pub mod NamedDetectors
 pub mod TextDets
+pub mod TextHits
 pub mod RunsR8
-pub mod InternalWordsDets
+pub mod InternalParts
 pub mod InternalRises
 pub mod InternalRuns
 pub mod InternalAnswers

@@ -1,11 +1,12 @@
 -- The format `dets` of Stim's result formats: a line for each shot, the word `shot` and a word for each detector that fired.
-use Rattle.std.specs.Prelude.{ℕ, ◌+◌, ◌*◌, ◌-◌, ◌==◌, nat_eq, nat_lt, nat_le, Bool, true, false, ◌&&◌, List, [], ◌∷◌, ◌++◌, filter, codes, if◌then◌else◌, Option, Some, None, Ok, Err}
-use Rattle.std.specs.List.{list_any, flat_map, range_with_len}
+use Rattle.std.specs.Prelude.{ℕ, ◌==◌, Bool, true, false, List, [], ◌∷◌, ◌++◌, codes, if◌then◌else◌, Option, Some, None, Ok, Err}
+use Rattle.std.specs.List.{flat_map}
 use Rattle.std.specs.Str.{bytes_eq}
 use Rattle.fb_shots_stim.specs.declared.answer.Kind.{Kind}
-use Rattle.fb_shots_stim.specs.declared.answer.Kind.TheVariants.{BadToken, IndexOutOfRange, RepeatedIndex, MeasurementToken}
-use Rattle.fb_records.specs.Records.{Ending, still_open, refused, Records, Judged}
+use Rattle.fb_shots_stim.specs.declared.answer.Kind.TheVariants.{BadToken, MeasurementToken}
+use Rattle.fb_records.specs.Records.{Ending, Records, Judged}
 use Rattle.fb_records.specs.Lines.{whole_parts, last_part, if_not_empty, bare, after_first, records_by_lines, prefix_by_lines}
+use Rattle.fb_shots_stim.specs.NamedDetectors.{index_of, with_detector, shot_of, ending_of}
 
 -- ---- words
 
@@ -17,26 +18,7 @@ ended_words line = flat_map if_not_empty (whole_parts 32 line)
 abbrev pub words_of : List ℕ → List (List ℕ)
 words_of line = flat_map if_not_empty (whole_parts 32 line ++ last_part 32 line ∷ [])
 
-abbrev pub is_digit : ℕ → Bool
-is_digit c = nat_le 48 c && nat_le c 57
-
--- the number that digits write, however many, behind those that write this one
-abbrev pub number_from : ℕ → List ℕ → Option ℕ
-number_from value [] = Some value
-number_from value (c ∷ digits) = if is_digit c then number_from (value * 10 + (c - 48)) digits else None
-
--- one digit or more
-abbrev pub index_of : List ℕ → Option ℕ
-index_of [] = None
-index_of (c ∷ digits) = number_from 0 (c ∷ digits)
-
 -- ---- a record, word by word
-
--- The detectors named so far, and one more.
-abbrev pub with_detector : ℕ → List ℕ → ℕ → Judged (List ℕ) Kind
-with_detector n named k =
-    if nat_lt k n then (if list_any (nat_eq k) named then Err RepeatedIndex else Ok (Some (named ++ k ∷ [])))
-    else Err IndexOutOfRange
 
 -- A letter with an index: a detector, an observable, which is ignored, or a measurement.
 abbrev pub with_letter : ℕ → List ℕ → ℕ → Option ℕ → Judged (List ℕ) Kind
@@ -57,24 +39,11 @@ with_words n (Err kind) words = Err kind
 with_words n (Ok so_far) [] = Ok so_far
 with_words n (Ok so_far) (word ∷ words) = with_words n (with_word n so_far word) words
 
--- the detectors that are named, rising
-abbrev pub rising : ℕ → List ℕ → List ℕ
-rising n named = filter (λ k. list_any (nat_eq k) named) (range_with_len 0 n)
-
 -- ---- a line
-
-abbrev pub shot_of : ℕ → Judged (List ℕ) Kind → Judged (List ℕ) Kind
-shot_of n (Ok None) = Ok None
-shot_of n (Ok (Some named)) = Ok (Some (rising n named))
-shot_of n (Err kind) = Err kind
 
 -- A line of words, without the carriage return at its end. One without a word is skipped.
 abbrev pub line_dets : ℕ → List ℕ → Judged (List ℕ) Kind
 line_dets n line = shot_of n (with_words n (Ok None) (words_of line))
-
-abbrev pub ending_of : Judged (List ℕ) Kind → Ending Kind
-ending_of (Ok so_far) = still_open
-ending_of (Err kind) = refused kind
 
 -- the words of a line that may go on, each judged once it has ended
 abbrev pub begun_dets : ℕ → List ℕ → Ending Kind

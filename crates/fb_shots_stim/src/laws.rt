@@ -6,6 +6,7 @@ ghost use Rattle.fb_records.specs.Answers.{FirstRecordLeaves, GoesOnAnywhere};
 ghost use Rattle.fb_shots_stim.specs.Text01.{records_01, prefix_01};
 ghost use Rattle.fb_shots_stim.specs.BlocksB8.{block_len, records_b8, prefix_b8};
 ghost use Rattle.fb_shots_stim.specs.TextDets.{after_record, records_dets, prefix_dets};
+ghost use Rattle.fb_shots_stim.specs.TextHits.{records_hits, prefix_hits};
 ghost use Rattle.fb_shots_stim.specs.RunsR8.{after_r8, records_r8, prefix_r8};
 
 /// However an input in the format `01` is cut into pieces, the results are the same: what is settled by a
@@ -26,6 +27,12 @@ pub fn goes_on_b8()
 pub fn goes_on_dets()
     ensures whole { GoesOnAnywhere records_dets prefix_dets }
     ensures first { FirstRecordLeaves records_dets prefix_dets (λ n. after_record) }
+{}
+
+/// The same of the format `hits`.
+pub fn goes_on_hits()
+    ensures whole { GoesOnAnywhere records_hits prefix_hits }
+    ensures first { FirstRecordLeaves records_hits prefix_hits (λ n. after_line) }
 {}
 
 /// The same of the format `r8`.
