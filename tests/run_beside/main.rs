@@ -3,6 +3,7 @@
 
 #![tactic(auto)]
 
+mod cut;
 mod fed;
 mod runs;
 mod stopped;
@@ -19,6 +20,12 @@ fn main(rt: HostRuntime) -> io::Result<()> {
         ("half a block is refused at the end", fed::refuses_half_a_block(alloc)),
         ("lines of words are read from pieces", fed::reads_lines_of_words(alloc)),
         ("a word that grows is refused when it ends", fed::refuses_an_index_that_grows(alloc)),
+        ("lines of hits are read, however cut", cut::reads_hits(alloc)),
+        ("each rule of hits is told, however cut", cut::refuses_hits(alloc)),
+        ("a bad hit is refused when it ends", cut::refuses_a_hit_at_its_comma(alloc)),
+        ("runs are read, however cut", cut::reads_runs(alloc)),
+        ("long runs are read, however cut", cut::reads_long_runs(alloc)),
+        ("each rule of runs is told, however cut", cut::refuses_runs(alloc)),
         ("a decode by a plan, with its events", runs::decodes_by_a_plan(&rt, alloc)),
         ("a decode that ends at a refused shot", runs::ends_at_a_refused_shot(&rt, alloc)),
         ("a decode from and to single bytes", runs::moves_single_bytes(&rt, alloc)),
