@@ -145,6 +145,13 @@ records_short n b bytes lt =
     ap (λ (bs : List (List ℕ)). go_down (block_b8 (suc n)) bs (if eqb (length (b ∷ bytes) % size) 0 then at_end else refused ShortRecord)) (blocks_none size (b ∷ bytes) lt)
     ∙ ap (λ (t : Bool). only (if t then at_end else refused ShortRecord)) some
 
+pub records_nothing : (n : ℕ) → records_b8 (suc n) [] ≡ only at_end
+records_nothing n =
+    let size = block_len (suc n) in
+    let lt : 0 < size = omega arith in
+    ap (λ (bs : List (List ℕ)). go_down (block_b8 (suc n)) bs (if eqb (0 % size) 0 then at_end else refused ShortRecord)) (blocks_none size [] lt)
+    ∙ ap (λ (k : ℕ). only (if eqb k 0 then at_end else refused ShortRecord)) (mod-eq_of_lt lt)
+
 pub prefix_short : (n : ℕ) (bytes : List ℕ) → length bytes < block_len (suc n) → prefix_b8 (suc n) bytes ≡ only still_open
 prefix_short n bytes lt = ap (λ (bs : List (List ℕ)). go_down (block_b8 (suc n)) bs still_open) (blocks_none (block_len (suc n)) bytes lt)
 

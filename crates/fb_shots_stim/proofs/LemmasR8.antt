@@ -40,13 +40,13 @@ after_end n place b more e ne = rw (ne_eqb b 255 ne, eq-eqb (place + b) n e) ref
 
 -- ---- rising lists
 
-rises_more : (low mid high x : ℕ) (xs : List ℕ) → Rises low mid xs → low ≤ x → mid ≤ x → x < high → Rises low high (xs ++ x ∷ [])
+pub rises_more : (low mid high x : ℕ) (xs : List ℕ) → Rises low mid xs → low ≤ x → mid ≤ x → x < high → Rises low high (xs ++ x ∷ [])
 rises_more low mid high x [] r first le lt = (first, lt, tt)
 rises_more low mid high x (y ∷ xs) r first le lt =
     let below : y < mid = r.1 in
     (r.0, omega arith, rises_more (y + 1) mid high x xs r.2 (omega arith) le lt)
 
-rises_higher : (low mid high : ℕ) (xs : List ℕ) → Rises low mid xs → mid ≤ high → Rises low high xs
+pub rises_higher : (low mid high : ℕ) (xs : List ℕ) → Rises low mid xs → mid ≤ high → Rises low high xs
 rises_higher low mid high [] r le = tt
 rises_higher low mid high (y ∷ xs) r le =
     let below : y < mid = r.1 in

@@ -11,3 +11,5 @@ pub mod ShotLemmas
 pub mod WordBits
 pub mod LemmasR8
 pub mod FirstRuns
+pub mod ReadBack
+pub mod ReadBackHits

@@ -107,7 +107,7 @@ filter_range p q a (suc n) h =
     ap (λ (b : Bool). cond b (a ∷ filter p (range_with_len (a + 1) n)) (filter p (range_with_len (a + 1) n))) (h a (omega arith))
     ∙ ap (λ (l : List ℕ). cond (q a) (a ∷ l) l) rest
 
-filter_rises : (n low high : ℕ) (xs : List ℕ) → high ≡ low + n → Rises low high xs → filter (λ k. list_any (eqb k) xs) (range_with_len low n) ≡ xs
+pub filter_rises : (n low high : ℕ) (xs : List ℕ) → high ≡ low + n → Rises low high xs → filter (λ k. list_any (eqb k) xs) (range_with_len low n) ≡ xs
 filter_rises zero low high [] e r = refl
 filter_rises zero low high (x ∷ xs) e r = absurd (let a : low ≤ x = r.0 in let b : x < high = r.1 in omega arith)
 filter_rises (suc n) low high [] e r = filter_rises n (low + 1) high [] (omega arith) tt

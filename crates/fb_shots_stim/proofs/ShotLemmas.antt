@@ -19,7 +19,7 @@ use Rattle.fb_shots_stim.specs.InternalRises.{Rises}
 
 -- ---- rising lists
 
-rises_lower : (lower low high : ℕ) (xs : List ℕ) → lower ≤ low → Rises low high xs → Rises lower high xs
+pub rises_lower : (lower low high : ℕ) (xs : List ℕ) → lower ≤ low → Rises low high xs → Rises lower high xs
 rises_lower lower low high [] le r = tt
 rises_lower lower low high (x ∷ xs) le r = let first : low ≤ x = r.0 in (omega arith, r.1, r.2)
 

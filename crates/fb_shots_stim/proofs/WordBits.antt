@@ -61,7 +61,7 @@ next_set (suc count) (suc width) place left some lt le = elim (cases_eq (left % 
 -- ---- a word of bytes
 
 -- the lowest bits of a number by its lowest j and those above them
-low_append : (j k b above m : ℕ) → b < 2 ^ j → m ≡ b + above * 2 ^ j → low_bits (j + k) m ≡ low_bits j b ++ low_bits k above
+pub low_append : (j k b above m : ℕ) → b < 2 ^ j → m ≡ b + above * 2 ^ j → low_bits (j + k) m ≡ low_bits j b ++ low_bits k above
 unfolding low_bits
 low_append zero k b above m lt e =
     let none : 0 + k ≡ k = omega arith in

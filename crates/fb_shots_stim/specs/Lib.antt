@@ -6,6 +6,7 @@ pub mod NamedDetectors
 pub mod TextDets
 pub mod TextHits
 pub mod RunsR8
+pub mod CodedShots
 pub mod InternalParts
 pub mod InternalRises
 pub mod InternalRuns

@@ -8,6 +8,7 @@ ghost use Rattle.fb_shots_stim.specs.BlocksB8.{block_len, records_b8, prefix_b8}
 ghost use Rattle.fb_shots_stim.specs.TextDets.{after_record, records_dets, prefix_dets};
 ghost use Rattle.fb_shots_stim.specs.TextHits.{records_hits, prefix_hits};
 ghost use Rattle.fb_shots_stim.specs.RunsR8.{after_r8, records_r8, prefix_r8};
+ghost use Rattle.fb_shots_stim.specs.CodedShots.{coded_01, coded_b8, coded_hits, coded_r8, ReadsBack};
 
 /// However an input in the format `01` is cut into pieces, the results are the same: what is settled by a
 /// prefix are the first shots of the whole, and what that prefix refuses is refused. Without its first record's bytes it
@@ -39,4 +40,25 @@ pub fn goes_on_hits()
 pub fn goes_on_r8()
     ensures whole { GoesOnAnywhere records_r8 prefix_r8 }
     ensures first { FirstRecordLeaves records_r8 prefix_r8 after_r8 }
+{}
+
+/// Shots that are written in the format `01` are read back: a reader of their texts gives the places of the bits that are
+/// set, and then the end.
+pub fn reads_back_01()
+    ensures { ReadsBack records_01 coded_01 }
+{}
+
+/// The same of the format `b8`.
+pub fn reads_back_b8()
+    ensures { ReadsBack records_b8 coded_b8 }
+{}
+
+/// The same of the format `hits`.
+pub fn reads_back_hits()
+    ensures { ReadsBack records_hits coded_hits }
+{}
+
+/// The same of the format `r8`.
+pub fn reads_back_r8()
+    ensures { ReadsBack records_r8 coded_r8 }
 {}

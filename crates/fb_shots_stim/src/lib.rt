@@ -14,7 +14,10 @@ mod sparse;
 
 pub use answer::Kind;
 pub use dense::Records01;
-pub use laws::{goes_on_01, goes_on_b8, goes_on_dets, goes_on_hits, goes_on_r8};
+pub use laws::{
+    goes_on_01, goes_on_b8, goes_on_dets, goes_on_hits, goes_on_r8, reads_back_01, reads_back_b8,
+    reads_back_hits, reads_back_r8,
+};
 pub use listed::RecordsHits;
 pub use packed::RecordsB8;
 pub use runs::RecordsR8;
