@@ -25,7 +25,8 @@ with_bit byte place bit = if bit then byte + 2 ^ place else byte
 abbrev pub bytes_from : (byte place : ℕ) → List Bool → List ℕ
 bytes_from byte place [] = if place == 0 then [] else byte ∷ []
 bytes_from byte place (bit ∷ bits) =
-    if place == 7 then with_bit byte place bit ∷ bytes_from 0 0 bits else bytes_from (with_bit byte place bit) (place + 1) bits
+    if place == 7 then with_bit byte place bit ∷ bytes_from 0 0 bits
+    else bytes_from (with_bit byte place bit) (place + 1) bits
 
 abbrev pub coded_b8 : List Bool → List ℕ
 coded_b8 bits = bytes_from 0 0 bits

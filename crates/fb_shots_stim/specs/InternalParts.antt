@@ -5,6 +5,7 @@ use Rattle.fb_shots_stim.specs.declared.answer.Kind.{Kind}
 use Rattle.fb_records.specs.Records.{Ending, Records, Judged}
 use Rattle.fb_records.specs.Lines.{holds, whole_parts, last_part, if_not_empty, bare, after_first, records_by_lines, prefix_by_lines}
 use Rattle.fb_records.specs.Steps.{part_of, Skips}
+use Rattle.fb_shots_stim.specs.declared.parts.Place.{Place}
 use Rattle.fb_shots_stim.specs.NamedDetectors.{shot_of, ending_of}
 use Rattle.fb_shots_stim.specs.TextDets.{with_words}
 use Rattle.fb_shots_stim.specs.TextHits.{with_hit}
@@ -112,3 +113,9 @@ pub record IsPlace (rules : PartRules) (now : RecordSoFar) (bytes : List ℕ) (l
   pub part_next : part ≤ seen
   pub within : seen ≤ length bytes
   pub parts : IsAt rules now.detectors (take line bytes) (part_of bytes line part) (part_of bytes part seen) now.named
+
+abbrev pub start_place : Place
+start_place = record { line = 0; part = 0; seen = 0 }
+
+abbrev pub IsAtPlace : PartRules → RecordSoFar → List ℕ → Place → Type 0
+IsAtPlace rules now bytes place = IsPlace rules now bytes place.line place.part place.seen

@@ -1,11 +1,12 @@
--- The format `r8` of Stim's result formats: for each shot, how many detectors didn't fire before each that did and after the last.
+-- The format `r8` of Stim's result formats: for each shot, how many detectors didn't fire before each that did, and after
+-- the last.
 use Rattle.std.specs.Prelude.{ℕ, ◌+◌, ◌==◌, nat_lt, List, [], ◌∷◌, ◌++◌, if◌then◌else◌}
 use Rattle.fb_shots_stim.specs.declared.answer.Kind.{Kind}
 use Rattle.fb_shots_stim.specs.declared.answer.Kind.TheVariants.{ShortRecord, LongRecord}
 use Rattle.fb_records.specs.Records.{Ending, at_end, still_open, refused, Records, only, with_first_shot}
 
--- What some bytes hold for n detectors, from a place in a record on. `named` are the detectors before the place that
--- fired, and `ending` says how bytes end at a place. A byte is a number of detectors that didn't fire. After it comes one
+-- What some bytes hold for n detectors, from a place in a record on. The detectors before the place that fired are those
+-- named, and `ending` says how bytes end at a place. A byte is a number of detectors that didn't fire. After it comes one
 -- that did, but after 255; after the last detector the record ends.
 abbrev pub read_r8 : (n : ℕ) (ending : ℕ → Ending Kind) (place : ℕ) (named : List ℕ) → List ℕ → Records (List ℕ) Kind
 read_r8 n ending place named [] = only (ending place)

@@ -1,4 +1,5 @@
--- The format `hits` of Stim's result formats: a line for each shot, the indices of the detectors that fired, parted by commas.
+-- The format `hits` of Stim's result formats: a line for each shot, the indices of the detectors that fired with a comma
+-- between each two.
 use Rattle.std.specs.Prelude.{ℕ, List, [], ◌∷◌, ◌++◌, Option, Some, None, Ok, Err}
 use Rattle.fb_shots_stim.specs.declared.answer.Kind.{Kind}
 use Rattle.fb_shots_stim.specs.declared.answer.Kind.TheVariants.{BadToken}

@@ -42,8 +42,8 @@ pub fn goes_on_r8()
     ensures first { FirstRecordLeaves records_r8 prefix_r8 after_r8 }
 {}
 
-/// Shots that are written in the format `01` are read back: a reader of their texts gives the places of the bits that are
-/// set, and then the end.
+/// Bits that are written in the format `01`, shot by shot, are read back: a reader of the whole text gives the places of
+/// the bits that are set, for each shot, and then the end.
 pub fn reads_back_01()
     ensures { ReadsBack records_01 coded_01 }
 {}

@@ -1,4 +1,5 @@
-//! Readers of detector shots in Stim's result formats `01`, `b8`, `dets`, `hits` and `r8`, from bytes that come in any pieces.
+//! Readers of detector shots in Stim's result formats `01`, `b8`, `dets`, `hits` and `r8`, from bytes that come in any
+//! pieces; and laws of these formats.
 #![tactic(auto)]
 
 mod answer;

@@ -8,7 +8,8 @@ use fb_records::{Found, Numbers, RecordFormat, RecordReader, Stop};
 use std::alloc::Global;
 use std::marker::Model;
 
-/// A reader of shots in the format `hits`. Contracts see the bytes fed that no result has used, and whether they are all.
+/// A reader of shots in the format `hits`. Contracts see the bytes fed that no result has used, and whether they are
+/// all.
 pub type RecordsHits = RecordReader<Listed>;
 
 /// The format `hits` of shots of some detectors. Contracts see the number of them.
@@ -60,7 +61,7 @@ impl RecordFormat for Listed {
     ghost use Rattle.fb_shots_stim.specs.Shots.{IsShotOf};
     ghost use Rattle.fb_records.specs.Lines.{after_line};
     ghost use Rattle.fb_shots_stim.specs.TextHits.{records_hits, prefix_hits};
-    ghost use Rattle.fb_shots_stim.specs.InternalParts.{hits_rules, IsPlace};
+    ghost use Rattle.fb_shots_stim.specs.InternalParts.{hits_rules, IsAtPlace};
 
     type Subject = u32;
 
@@ -81,7 +82,7 @@ impl RecordFormat for Listed {
     ghost IsShot = { IsShotOf };
 
     ghost IsBegun = { λ n begun bytes. (begun.so_far.detectors ≡ n)
-        × IsPlace hits_rules begun.so_far bytes begun.place.line begun.place.part begun.place.seen };
+        × IsAtPlace hits_rules begun.so_far bytes begun.place };
 
     fn new(alloc: Global, detectors: u32) -> Self {
         Listed { alloc, detectors }

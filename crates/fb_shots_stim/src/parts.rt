@@ -5,7 +5,7 @@ ghost use Rattle.fb_records.specs.Lines.{holds};
 ghost use Rattle.fb_records.specs.Steps.{part_of, IfFound, IfRefused, answer_at, used_of};
 ghost use Rattle.fb_records.specs.declared.answer.Next.TheVariants as next;
 ghost use Rattle.fb_shots_stim.specs.Shots.{IsShotOf};
-ghost use Rattle.fb_shots_stim.specs.InternalParts.{PartRules, IsPlace, is_part_end};
+ghost use Rattle.fb_shots_stim.specs.InternalParts.{PartRules, IsAtPlace, is_part_end, start_place};
 ghost use Rattle.fb_shots_stim.specs.InternalAnswers.{AnswersParts};
 
 use crate::answer::Kind;
@@ -23,7 +23,8 @@ pub trait LineParts {
 
     /// Takes a part that the separator has ended.
     fn take(so_far: &mut SoFar, part: &[u8]) -> Result<(), Stop<Kind>>
-        ensures ok { OnOk result (rules.with_part so_far.old.detectors so_far.old.named part.now ≡ Ok so_far.new.named) }
+        ensures ok { OnOk result
+            (rules.with_part so_far.old.detectors so_far.old.named part.now ≡ Ok so_far.new.named) }
         ensures same { so_far.new.detectors ≡ so_far.old.detectors }
         ensures refused { IfErr result (IfRefused (λ kind.
             rules.with_part so_far.old.detectors so_far.old.named part.now ≡ Err kind)) }
@@ -70,7 +71,7 @@ impl Begun {
     pub fn new(alloc: Global, detectors: u32) -> Self
         ensures detectors { result.so_far.detectors ≡ detectors }
         ensures named { result.so_far.named ≡ None }
-        ensures place { result.place ≡ record { line = 0; part = 0; seen = 0 } }
+        ensures place { result.place ≡ start_place }
     {
         Begun {
             so_far: SoFar::new(alloc, detectors),
@@ -85,18 +86,17 @@ pub fn advance<P: LineParts>(
     rest: &[u8],
     finished: bool,
 ) -> Result<Found<Numbers>, Stop<Kind>>
-    requires { IsPlace P.rules begun.old.so_far rest.now begun.old.place.line begun.old.place.part begun.old.place.seen }
-    ensures ok { IfOk result (λ found. AnswersParts P.rules begun.old.so_far.detectors rest.now finished
-        (drop (used_of found) rest.now) (answer_at found)) }
+    requires { IsAtPlace P.rules begun.old.so_far rest.now begun.old.place }
+    ensures ok { IfOk result (λ found. AnswersParts P.rules begun.old.so_far.detectors rest.now
+        finished (drop (used_of found) rest.now) (answer_at found)) }
     ensures used { IfOk result (λ found. used_of found ≤ length rest.now) }
     ensures shot { IfOk result (IfFound (IsShotOf begun.old.so_far.detectors)) }
-    ensures begun { IfOk result (λ found. IsPlace P.rules begun.new.so_far (drop (used_of found) rest.now)
-        begun.new.place.line begun.new.place.part begun.new.place.seen) }
+    ensures begun { IfOk result (λ found.
+        IsAtPlace P.rules begun.new.so_far (drop (used_of found) rest.now) begun.new.place) }
     ensures same { begun.new.so_far.detectors ≡ begun.old.so_far.detectors }
-    ensures refused { IfErr result (IfRefused (λ kind. AnswersParts P.rules begun.old.so_far.detectors rest.now finished
-        rest.now (next.Refused kind))) }
-    ensures err { OnErr result (IsPlace P.rules begun.new.so_far rest.now
-        begun.new.place.line begun.new.place.part begun.new.place.seen) }
+    ensures refused { IfErr result (IfRefused (λ kind. AnswersParts P.rules
+        begun.old.so_far.detectors rest.now finished rest.now (next.Refused kind))) }
+    ensures err { OnErr result (IsAtPlace P.rules begun.new.so_far rest.now begun.new.place) }
 {
     loop {
         begun.place.seen = part_end(rest, begun.place.seen, P::separator());
@@ -131,7 +131,8 @@ fn part_end(bytes: &[u8], from: usize, separator: u8) -> usize
     ensures within { result ≤ length bytes.now }
     ensures in_line { holds 10 (part_of bytes.now from result) ≡ false }
     ensures in_part { holds separator (part_of bytes.now from result) ≡ false }
-    ensures stops { result < length bytes.now → is_part_end separator (slice_index bytes.now result) ≡ true }
+    ensures stops { result < length bytes.now
+        → is_part_end separator (slice_index bytes.now result) ≡ true }
 {
     let mut i = from;
     while i < bytes.len() && bytes[i] != separator && bytes[i] != b'\n' {
@@ -146,15 +147,15 @@ fn take_part<P: LineParts>(
     place: &mut Place,
     rest: &[u8],
 ) -> Result<(), Stop<Kind>>
-    requires at { IsPlace P.rules so_far.old rest.now place.old.line place.old.part place.old.seen }
+    requires at { IsAtPlace P.rules so_far.old rest.now place.old }
     requires more { place.old.seen < length rest.now }
     requires separator { slice_index rest.now place.old.seen ≡ P.rules.separator }
-    ensures ok { OnOk result (IsPlace P.rules so_far.new rest.now place.new.line place.new.part place.new.seen) }
+    ensures ok { OnOk result (IsAtPlace P.rules so_far.new rest.now place.new) }
     ensures onward { OnOk result (place.new.seen ≡ place.old.seen + 1) }
     ensures same { so_far.new.detectors ≡ so_far.old.detectors }
     ensures refused { IfErr result (IfRefused (λ kind. (finished : Bool) →
         AnswersParts P.rules so_far.old.detectors rest.now finished rest.now (next.Refused kind))) }
-    ensures err { OnErr result (IsPlace P.rules so_far.new rest.now place.new.line place.new.part place.new.seen) }
+    ensures err { OnErr result (IsAtPlace P.rules so_far.new rest.now place.new) }
 {
     P::take(so_far, &rest[place.part..place.seen])?;
     place.seen += 1;
@@ -168,19 +169,20 @@ fn take_line<P: LineParts>(
     place: &mut Place,
     rest: &[u8],
 ) -> Result<Option<Numbers>, Stop<Kind>>
-    requires at { IsPlace P.rules so_far.old rest.now place.old.line place.old.part place.old.seen }
+    requires at { IsAtPlace P.rules so_far.old rest.now place.old }
     requires more { place.old.seen < length rest.now }
     requires newline { slice_index rest.now place.old.seen ≡ 10 }
-    ensures skipped { IfOk result (λ found. IfNone found (IsPlace P.rules so_far.new rest.now
-        place.new.line place.new.part place.new.seen)) }
+    ensures skipped { IfOk result (λ found. IfNone found (IsAtPlace P.rules so_far.new rest.now place.new)) }
     ensures onward { IfOk result (λ found. IfNone found (place.new.seen ≡ place.old.seen + 1)) }
-    ensures shot { IfOk result (λ found. IfSome found (λ shot. IsShotOf so_far.old.detectors shot × ((finished : Bool) →
-        AnswersParts P.rules so_far.old.detectors rest.now finished (drop (place.old.seen + 1) rest.now) (next.Shot shot)))) }
-    ensures begun { IfOk result (λ found. IfSome found (λ _. (bytes : List ℕ) → IsPlace P.rules so_far.new bytes 0 0 0)) }
+    ensures shot { IfOk result (λ found. IfSome found (λ shot. IsShotOf so_far.old.detectors shot
+        × ((finished : Bool) → AnswersParts P.rules so_far.old.detectors rest.now finished
+        (drop (place.old.seen + 1) rest.now) (next.Shot shot)))) }
+    ensures begun { IfOk result (λ found. IfSome found (λ _.
+        (bytes : List ℕ) → IsAtPlace P.rules so_far.new bytes start_place)) }
     ensures same { so_far.new.detectors ≡ so_far.old.detectors }
     ensures refused { IfErr result (IfRefused (λ kind. (finished : Bool) →
         AnswersParts P.rules so_far.old.detectors rest.now finished rest.now (next.Refused kind))) }
-    ensures err { OnErr result (IsPlace P.rules so_far.new rest.now place.new.line place.new.part place.new.seen) }
+    ensures err { OnErr result (IsAtPlace P.rules so_far.new rest.now place.new) }
 {
     if let Some(shot) = P::end(so_far, without_return(&rest[place.part..place.seen]))? {
         return Ok(Some(shot));
@@ -197,17 +199,18 @@ fn take_last<P: LineParts>(
     place: Place,
     rest: &[u8],
 ) -> Result<Option<Numbers>, Stop<Kind>>
-    requires at { IsPlace P.rules so_far.old rest.now place.line place.part place.seen }
+    requires at { IsAtPlace P.rules so_far.old rest.now place }
     requires all { place.seen ≡ length rest.now }
     requires some { place.line < length rest.now }
-    ensures nothing { IfOk result (λ found. IfNone found (AnswersParts P.rules so_far.old.detectors rest.now true rest.now next.End)) }
+    ensures nothing { IfOk result (λ found. IfNone found
+        (AnswersParts P.rules so_far.old.detectors rest.now true rest.now next.End)) }
     ensures shot { IfOk result (λ found. IfSome found (λ shot. IsShotOf so_far.old.detectors shot
         × AnswersParts P.rules so_far.old.detectors rest.now true [] (next.Shot shot))) }
-    ensures begun { OnOk result ((bytes : List ℕ) → IsPlace P.rules so_far.new bytes 0 0 0) }
+    ensures begun { OnOk result ((bytes : List ℕ) → IsAtPlace P.rules so_far.new bytes start_place) }
     ensures same { so_far.new.detectors ≡ so_far.old.detectors }
     ensures refused { IfErr result (IfRefused (λ kind.
         AnswersParts P.rules so_far.old.detectors rest.now true rest.now (next.Refused kind))) }
-    ensures err { OnErr result (IsPlace P.rules so_far.new rest.now place.line place.part place.seen) }
+    ensures err { OnErr result (IsAtPlace P.rules so_far.new rest.now place) }
 {
     P::end(so_far, without_return(&rest[place.part..place.seen]))
 }

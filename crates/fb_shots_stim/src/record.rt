@@ -75,7 +75,8 @@ impl SoFar {
 
     /// Names one more detector, in a record that begins here if none is begun.
     pub fn name(&mut self, index: u32) -> Result<(), Stop<Kind>>
-        ensures ok { OnOk result (with_detector self.old.detectors (named_of self.old.named) index ≡ Ok self.new.named) }
+        ensures ok { OnOk result
+            (with_detector self.old.detectors (named_of self.old.named) index ≡ Ok self.new.named) }
         ensures same { self.new.detectors ≡ self.old.detectors }
         ensures refused { IfErr result (IfRefused (λ kind.
             with_detector self.old.detectors (named_of self.old.named) index ≡ Err kind)) }

@@ -8,7 +8,8 @@ use fb_records::{Found, Numbers, RecordFormat, RecordReader, Stop};
 use std::alloc::Global;
 use std::marker::Model;
 
-/// A reader of shots in the format `dets`. Contracts see the bytes fed that no result has used, and whether they are all.
+/// A reader of shots in the format `dets`. Contracts see the bytes fed that no result has used, and whether they are
+/// all.
 pub type RecordsDets = RecordReader<Sparse>;
 
 /// The format `dets` of shots of some detectors. Contracts see the number of them.
@@ -71,7 +72,7 @@ impl RecordFormat for Sparse {
     ghost use Rattle.std.proofs.lemmas.Grind.{common_steps};
     ghost use Rattle.fb_shots_stim.specs.Shots.{IsShotOf};
     ghost use Rattle.fb_shots_stim.specs.TextDets.{records_dets, prefix_dets, after_record};
-    ghost use Rattle.fb_shots_stim.specs.InternalParts.{dets_rules, IsPlace};
+    ghost use Rattle.fb_shots_stim.specs.InternalParts.{dets_rules, IsAtPlace};
 
     type Subject = u32;
 
@@ -92,7 +93,7 @@ impl RecordFormat for Sparse {
     ghost IsShot = { IsShotOf };
 
     ghost IsBegun = { λ n begun bytes. (begun.so_far.detectors ≡ n)
-        × IsPlace dets_rules begun.so_far bytes begun.place.line begun.place.part begun.place.seen };
+        × IsAtPlace dets_rules begun.so_far bytes begun.place };
 
     fn new(alloc: Global, detectors: u32) -> Self {
         Sparse { alloc, detectors }
