@@ -3,20 +3,21 @@ use Rattle.std.proofs.Common.{◌≡◌, ℕ, ◌==◌, ◌&&◌, inl, inr, Bool
 use Rattle.std.proofs.KnownBytes.{Appends-nil, Appends-trans}
 use Rattle.fb_graph.specs.Limits.{DecodingGraph, ShotValue}
 use Rattle.fb_graph.specs.declared.parts.Row.{Row}
-use Rattle.fb_ports.specs.Causes.{Appends, AppendsPrefix, CountsFault, Rose}
+use Rattle.fb_ports.specs.Causes.{Appends, AppendsPrefix, CountsFault}
 use Rattle.fb_ports.proofs.Onward.{prefix_second}
 use Rattle.fb_shots.specs.Shots.{at_end}
-use Rattle.fb_shots.specs.declared.answer.Format.{Format}
+use Rattle.fb_request.specs.declared.format.Format.{Format}
 use Rattle.fb_shots.specs.Streams.{Stream, fresh}
 use Rattle.fb_check.specs.CheckEndings.{check_account, check_source}
-use Rattle.fb_check.specs.TextEnds.{AppendsAfter, EndAfter, FirstOf, Source, TextEnds, WritesPart, WritesWhole}
+use Rattle.fb_endings.specs.TextEnds.{FirstOf, TextEnds, WritesPart, WritesWhole}
 use Rattle.fb_check.specs.Checks.{bad_count, check_cause, check_head, check_last, verdict_lines}
-use Rattle.fb_check.specs.Ends.{CountsReadFault, IsReadToItsEnd, MayFollowReadFault}
+use Rattle.fb_endings.specs.Ends.{CountsReadFault, IsReadToItsEnd, MayFollowReadFault}
 use Rattle.fb_check.specs.InternalJudges.{EndsCheck, JudgesAll, JudgesFirst, JudgesInto}
+use Rattle.fb_endings.proofs.InText.{appends_after}
 use Rattle.fb_inputs.specs.Judging.{HasFirstShots, HasShots, Named, most_shots}
 use Rattle.fb_inputs.specs.InternalGathers.{FirstFrom, Gathers, GathersFrom, IsOpened}
 use Rattle.fb_inputs.specs.Moments.{Moment}
-use Rattle.fb_words.specs.Words.{Checking}
+use Rattle.fb_request.specs.Requests.{Checking}
 use Rattle.fb_check.specs.declared.checking.Judged.{Judged}
 use Rattle.fb_endings.specs.declared.ending.Cause.{Cause}
 use Rattle.fb_endings.specs.declared.ending.Cause.TheVariants.{Bad, Done, NoMemory, ReadFault}
@@ -167,19 +168,6 @@ check_counted ended lines shots bad old new cause ends before now counts = (
   counts.1,
   check_reported ended lines shots bad old new cause ends before now counts.2,
 )
-
--- the head, and then a prefix of a text
-pub appends_after : (head : List ℕ) (old mid new : Option (List ℕ)) (text : List ℕ) → Appends old mid head → AppendsPrefix mid new text
-    → AppendsAfter head old new text
-appends_after head old mid new text whole (prefix, rest, parts, part) = (prefix, rest, parts, Appends-trans old mid new head prefix whole part)
-
--- how the shots of a file end, by what was gathered of it
-pub end_after : (source : Source) (before after : Moment) (shots : List ShotValue) (ended : ShotsEnd)
-    → Gathers before.named source.name source.format source.graph after.left shots ended
-    → (ended ≡ end.ReadFault → Rose before.faults after.faults) → EndAfter source before after shots
-end_after source before after shots end.End held rose = inl held
-end_after source before after shots (end.Refused fault) held rose = inr (inl (fault.kind, held.0))
-end_after source before after shots end.ReadFault held rose = inr (inr (rose refl, held))
 
 module _ (request : Checking) (g : DecodingGraph) (rows : List Row) (before after : Moment) where
   pub checks_first : (mid : Option (List ℕ)) → Appends before.written mid check_head

@@ -1,4 +1,2 @@
-pub mod AtFiles
 pub mod Lines
 pub mod Checked
-pub mod Reported

@@ -1,29 +1,17 @@
 -- What each end of a check says of what was written and read.
-use Rattle.std.specs.Prelude.{ℕ, ◌≡◌, ◌⊎◌, List, [], ◌∷◌, length, Ok, Err, ⊤}
+use Rattle.std.specs.Prelude.{◌≡◌, ◌⊎◌, List, [], ◌∷◌, length, ⊤}
 use Rattle.fb_graph.specs.Limits.{DecodingGraph}
 use Rattle.fb_graph.specs.declared.parts.Row.{Row}
-use Rattle.fb_verify.specs.Reports.{report_of_text}
-use Rattle.fb_verify.specs.declared.report_faults.ReportFault.{ReportFault}
 use Rattle.fb_verify.specs.declared.reports.Report.{Report}
 use Rattle.fb_verify.specs.declared.verdicts.Verdict.{Verdict}
 use Rattle.fb_check.specs.Checks.{AreVerdicts, bad_count, check_cause, check_head, check_last, verdict_lines}
-use Rattle.fb_check.specs.Ends.{EndsAtFile, EndsInText, IsGraphRefusal}
-use Rattle.fb_check.specs.TextEnds.{Account, Source, TextEnds}
-use Rattle.fb_inputs.specs.Judging.{Asks, Holds, IsGraphText, Named}
+use Rattle.fb_endings.specs.Ends.{EndsAtFile, EndsInText, IsGraphRefusal, IsReportRefusal}
+use Rattle.fb_endings.specs.TextEnds.{Account, Source, TextEnds}
+use Rattle.fb_inputs.specs.Judging.{Asks, IsGraphText, IsReportText}
 use Rattle.fb_inputs.specs.Moments.{Moment, ReadsFile}
-use Rattle.fb_words.specs.Words.{Checking}
+use Rattle.fb_request.specs.Requests.{Checking}
 use Rattle.fb_endings.specs.declared.ending.Cause.{Cause}
 use Rattle.fb_endings.specs.declared.ending.Cause.TheVariants.{NoMemory}
-use Rattle.fb_endings.specs.declared.ending.Refusal.{Refusal}
-use Rattle.fb_endings.specs.declared.ending.Refusal.TheVariants as refusal
-
--- the text is that of the report
-abbrev pub IsReportText : Report → List ℕ → Type 0
-IsReportText report text = report_of_text text ≡ Ok report
-
--- the text is no report, for this reason
-abbrev pub IsNoReport : ReportFault → List ℕ → Type 0
-IsNoReport fault text = report_of_text text ≡ Err fault
 
 -- a check writes the verdict on the row of each shot that has one
 abbrev pub check_account : DecodingGraph → List Row → Account Verdict
@@ -57,14 +45,6 @@ pub record EndsWithReport (request : Checking) (g : DecodingGraph) (before after
   pub read : Moment
   pub holds : ReadsFile (IsReportText report) request.report before read
   pub ends : ChecksOn request g report.rows read after cause
-
--- the text of the file of the name is no report, and the refusal is its fault
-abbrev pub IsReportRefusal : Named → List ℕ → Refusal → Type 0
-IsReportRefusal named name (refusal.Report fault) = Holds named name (IsNoReport fault)
-IsReportRefusal named name (refusal.Graph fault) = ⊥
-IsReportRefusal named name (refusal.Plan fault) = ⊥
-IsReportRefusal named name (refusal.Shot fault) = ⊥
-IsReportRefusal named name (refusal.Sample fault) = ⊥
 
 -- the end of a check for a graph: at the report, or with it
 abbrev pub ReportEnds : Checking → DecodingGraph → Moment → Moment → Cause → Type 0

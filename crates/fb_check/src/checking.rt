@@ -1,28 +1,27 @@
 //! The command `check`: judges the rows of a report.
 
-ghost use Rattle.std.specs.Prelude.{◌≡◌, ◌≢◌, ◌^◌, ◌<◌, ◌≤◌, [], ◌∷◌, length, All, IfOk, IfErr, OnErr, IsErrOf, Err, if◌then◌else◌};
+ghost use Rattle.std.specs.Prelude.{◌≡◌, ◌^◌, ◌<◌, ◌≤◌, [], length, All, IfOk, OnErr, Err, if◌then◌else◌};
 ghost use Rattle.fb_graph.specs.Limits.{IsShot};
 ghost use Rattle.fb_ports.specs.Causes.{HasRoom, IsEmptyIfKnown, CountsFault};
 ghost use Rattle.fb_shots.specs.Steps.{IsReadOut};
 ghost use Rattle.fb_shots.specs.Streams.{fresh};
 ghost use Rattle.fb_verify.specs.Verdicts.{HasPositiveValues};
-ghost use Rattle.fb_check.specs.CheckEndings.{CheckEnds, ChecksOn, IsNoReport, IsReportText, ReportEnds};
-ghost use Rattle.fb_check.specs.Ends.{CountsReadFault, IsReadToItsEnd};
+ghost use Rattle.fb_check.specs.CheckEndings.{CheckEnds, ChecksOn, ReportEnds};
+ghost use Rattle.fb_inputs.specs.Judging.{IsReadOutIfNamed, most_shots};
+ghost use Rattle.fb_endings.specs.Ends.{CountsReadFault, IsReadToItsEnd};
 ghost use Rattle.fb_check.specs.InternalJudges.{EndsCheck, JudgesAll, JudgesFirst, JudgesInto, JudgesNext};
-ghost use Rattle.fb_inputs.specs.Judging.{Asks, AsksPrefix, Holds, IfRefused, IsReadOutIfNamed, most_shots};
 ghost use Rattle.fb_inputs.specs.InternalGathers.{FirstFrom, GathersFrom};
 ghost use Rattle.fb_inputs.specs.Moments.{moment};
-ghost use Rattle.fb_words.specs.PlainRequests.{plain_checking};
+ghost use Rattle.fb_request.specs.PlainRequests.{plain_checking};
 
 use crate::check_text::{put_check_head, put_check_last, put_verdict};
-use crate::file_causes::{cause_of_report, graph_or_cause};
-use fb_endings::{Cause, Refusal};
+use fb_endings::{Cause, Refusal, cause_of_report, graph_or_cause};
 use fb_graph::{Graph, NoMemory, Row, Shot};
-use fb_inputs::{FileFault, MOST_SHOTS, Outbox, RowsFault, ShotsEnd, read_named};
+use fb_inputs::{MOST_SHOTS, Outbox, RowsFault, ShotsEnd, read_report_file};
 use fb_ports::{Files, Sink};
-use fb_shots::{Format, ShotStream, Step};
-use fb_verify::{Judge, MOST_REPORT_BYTES, Report, ReportFault, read_report};
-use fb_words::Checking;
+use fb_request::{Checking, Format};
+use fb_shots::{ShotStream, Step};
+use fb_verify::Judge;
 use std::alloc::Global;
 
 /// How many shots were taken, how many rows are bad, and how the shots ended.
@@ -31,31 +30,6 @@ pub struct Judged {
     pub shots: u64,
     pub bad: u64,
     pub end: ShotsEnd,
-}
-
-/// The report of the named file.
-fn read_report_file<F: Files>(
-    alloc: Global,
-    files: &mut F,
-    name: &str,
-) -> Result<Report, FileFault<ReportFault>>
-    requires { HasRoom (F.asked files.old) 16 }
-    ensures asks { AsksPrefix (F.asked files.old) (F.asked files.new) (name.now ∷ []) }
-    ensures asked { result ≢ Err FileFault.NoMemory → Asks (F.asked files.old) (F.asked files.new) (name.now ∷ []) }
-    ensures names { F.named files.new ≡ F.named files.old }
-    ensures report { IfOk result (λ r. Holds (F.named files.old) name.now (IsReportText r)) }
-    ensures values { IfOk result (λ r. All HasPositiveValues r.rows) }
-    ensures count { IfOk result (λ r. length r.rows < 2 ^ 32) }
-    ensures refused { IfErr result (IfRefused (λ fault. Holds (F.named files.old) name.now (IsNoReport fault))) }
-    ensures faults { CountsFault (IsErrOf result FileFault.ReadFault) (F.faults files.old) (F.faults files.new) }
-    ensures reported { F.faults files.old < F.faults files.new → IsErrOf result FileFault.ReadFault }
-{
-    let text = read_named(alloc, files, name, MOST_REPORT_BYTES, ReportFault::TooLong)?;
-    match read_report(alloc, &text) {
-        Ok(report) => Ok(report),
-        Err(ReportFault::NoMemory) => Err(FileFault::NoMemory),
-        Err(fault) => Err(FileFault::Refused(fault)),
-    }
 }
 
 /// Checks the report that is named: the graph is read and judged, then the report; then the head is written, and the

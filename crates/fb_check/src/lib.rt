@@ -4,7 +4,5 @@
 
 mod check_text;
 mod checking;
-mod file_causes;
 
 pub use checking::check;
-pub use file_causes::{cause_of_plan, graph_or_cause};

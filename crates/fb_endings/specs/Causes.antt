@@ -10,7 +10,7 @@ use Rattle.fb_endings.specs.declared.ending.Cause.{Cause}
 use Rattle.fb_endings.specs.declared.ending.Cause.TheVariants.{Done, Odd, Bad, Refused, ReadFault, WriteFault, NoMemory, Usage}
 use Rattle.fb_endings.specs.declared.ending.Refusal.{Refusal}
 use Rattle.fb_endings.specs.declared.ending.Refusal.TheVariants as refusal
-use Rattle.fb_words.specs.declared.usage.UsageKind.TheVariants as usage
+use Rattle.fb_request.specs.declared.usage.UsageKind.TheVariants as usage
 
 abbrev pub status_of : Cause → ℕ
 status_of Done = 0

@@ -1,1 +1,4 @@
 pub mod Causes
+pub mod Ends
+pub mod TextEnds
+pub mod InternalCauses

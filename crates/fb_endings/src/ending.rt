@@ -6,9 +6,9 @@ ghost use Rattle.fb_endings.specs.Causes.{status_of};
 use fb_gen::GenFault;
 use fb_graph_in::TextFault;
 use fb_plan::PlanFault;
+use fb_request::UsageKind;
 use fb_shots::ShotFault;
 use fb_verify::ReportFault;
-use fb_words::UsageKind;
 
 /// Why an input isn't accepted.
 #[derive(Clone, Copy, Debug, PartialEq, Eq)]

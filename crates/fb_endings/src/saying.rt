@@ -7,7 +7,7 @@ ghost use Rattle.fb_endings.specs.Causes.{line_of, fixed_line, refusal_line, ref
 
 use crate::ending::{Cause, Refusal};
 use fb_ports::{Failed, Sink, put_all, put_parts};
-use fb_words::UsageKind;
+use fb_request::UsageKind;
 use itoa::Buffer;
 
 /// Puts the line of a cause into a sink: why a run ended. `Done`, `Odd` and `Bad` have none, and neither has a command

@@ -5,7 +5,7 @@ use Rattle.std.proofs.KnownBytes.{Consumes-nil, Consumes-trans}
 use Rattle.std.proofs.lemmas.List.Elements.{All-append, All-cons, All-nil}
 use Rattle.fb_graph.specs.Limits.{DecodingGraph, IsShot, ShotValue}
 use Rattle.fb_ports.specs.Causes.{Opens}
-use Rattle.fb_shots.specs.declared.answer.Format.{Format}
+use Rattle.fb_request.specs.declared.format.Format.{Format}
 use Rattle.fb_shots.specs.declared.answer.ShotFault.{ShotFault}
 use Rattle.fb_shots.specs.Shots.{Ending, Shots, with_first_shots, at_end, only, refused, still_open}
 use Rattle.fb_shots.specs.Formats.{prefix_of}

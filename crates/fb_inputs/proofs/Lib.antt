@@ -1,3 +1,4 @@
 pub mod Inputs
 pub mod Lists
 pub mod Gathered
+pub mod Reported

@@ -3,7 +3,7 @@ use Rattle.std.specs.Prelude.{ℕ, ◌≡◌, List, length, Option, Some, None, 
 use Rattle.fb_graph.specs.Limits.{DecodingGraph, ShotValue}
 use Rattle.fb_ports.specs.Causes.{Rose}
 use Rattle.fb_shots.specs.Shots.{at_end, refused}
-use Rattle.fb_shots.specs.declared.answer.Format.{Format}
+use Rattle.fb_request.specs.declared.format.Format.{Format}
 use Rattle.fb_inputs.specs.Judging.{HasFirstShots, HasShots, Holds, IsReadInPart, Named}
 use Rattle.fb_inputs.specs.declared.taking.ShotsEnd.{ShotsEnd}
 use Rattle.fb_inputs.specs.declared.taking.ShotsEnd.TheVariants as end

@@ -6,10 +6,13 @@ use Rattle.fb_graph_in.specs.declared.faults.TextFault.{TextFault}
 use Rattle.fb_shots.specs.Shots.{Ending, still_open, Shots}
 use Rattle.fb_shots.specs.Formats.{prefix_of}
 use Rattle.fb_shots.specs.Streams.{most_bytes, stream_of}
-use Rattle.fb_shots.specs.declared.answer.Format.{Format}
+use Rattle.fb_request.specs.declared.format.Format.{Format}
 use Rattle.fb_plan.specs.Plans.{PlanTree}
 use Rattle.fb_plan.specs.declared.faults.PlanFault.{PlanFault}
 use Rattle.fb_plan_in.specs.PlanText.{plan_of_text}
+use Rattle.fb_verify.specs.Reports.{report_of_text}
+use Rattle.fb_verify.specs.declared.report_faults.ReportFault.{ReportFault}
+use Rattle.fb_verify.specs.declared.reports.Report.{Report}
 use Rattle.fb_inputs.specs.declared.fault.FileFault.{FileFault}
 use Rattle.fb_inputs.specs.declared.fault.FileFault.TheVariants as file_fault
 
@@ -37,6 +40,14 @@ IsPlanText g t text = plan_of_text text g ≡ Ok t
 -- the text is no plan of the graph, for this reason
 abbrev pub IsNoPlan : DecodingGraph → PlanFault → List ℕ → Type 0
 IsNoPlan g fault text = plan_of_text text g ≡ Err fault
+
+-- the text is that of the report
+abbrev pub IsReportText : Report → List ℕ → Type 0
+IsReportText report text = report_of_text text ≡ Ok report
+
+-- the text is no report, for this reason
+abbrev pub IsNoReport : ReportFault → List ℕ → Type 0
+IsNoReport fault text = report_of_text text ≡ Err fault
 
 -- if the text of a file is refused: the property of the reason
 abbrev pub IfRefused : {E : Type 0} → (E → Type 0) → FileFault E → Type 0

@@ -1,4 +1,4 @@
-//! What commands read, by the names of files: graphs, plans, and shots some at a time; and the outbox for what they write.
+//! What commands read, by the names of files: graphs, plans, reports, and shots some at a time; and the outbox for what they write.
 
 #![tactic(auto)]
 
@@ -8,6 +8,7 @@ pub mod laws;
 pub mod named;
 pub mod outbox;
 pub mod plans;
+pub mod reports;
 pub mod taking;
 
 pub use fault::FileFault;
@@ -15,4 +16,5 @@ pub use graphs::read_graph_file;
 pub use named::read_named;
 pub use outbox::{Outbox, RowsFault};
 pub use plans::read_plan_file;
+pub use reports::read_report_file;
 pub use taking::{MOST_SHOTS, ShotsEnd, Taken, take_window};

@@ -6,16 +6,16 @@ use Rattle.fb_plan.specs.Plans.{PlanTree, single_of}
 use Rattle.fb_run.specs.Endings.{EndsByPlan, EndsOn}
 use Rattle.fb_inputs.proofs.Inputs.{asks_none, asks_same}
 use Rattle.fb_inputs.specs.Moments.{Moment}
-use Rattle.fb_check.specs.Ends.{IsReadToItsEnd}
+use Rattle.fb_endings.specs.Ends.{IsReadToItsEnd}
 use Rattle.fb_inputs.specs.Judging.{Named}
 use Rattle.fb_run.specs.RunEndings.{EndsRight, RequestEnds, HasReadOut, ReadsOut}
 use Rattle.fb_run.specs.InternalCauses.{cause_of_words}
-use Rattle.fb_words.specs.PlainRequests.{IsFaultOf, usage_of}
-use Rattle.fb_words.specs.Words.{Decoding, Request, check, decode, sample}
+use Rattle.fb_words.specs.Faults.{IsFaultOf, usage_of}
+use Rattle.fb_request.specs.Requests.{Decoding, Request, check, decode, sample}
 use Rattle.fb_endings.specs.declared.ending.Cause.{Cause}
 use Rattle.fb_endings.specs.declared.ending.Cause.TheVariants.{Bad, Done, NoMemory, Odd, ReadFault, Refused, Usage, WriteFault}
-use Rattle.fb_words.specs.declared.usage.UsageKind.{UsageKind}
-use Rattle.fb_words.specs.declared.usage.UsageKind.TheVariants as usage
+use Rattle.fb_request.specs.declared.usage.UsageKind.{UsageKind}
+use Rattle.fb_request.specs.declared.usage.UsageKind.TheVariants as usage
 use Rattle.fb_words.specs.declared.words.WordsFault.{WordsFault}
 use Rattle.fb_words.specs.declared.words.WordsFault.TheVariants as fault
 

@@ -21,7 +21,7 @@ use Rattle.fb_run.specs.Rows.{Counts, counts_of, is_odd}
 use Rattle.fb_run.specs.InternalWrites.{tally_with, counts_in}
 use Rattle.fb_run.specs.declared.batches.Tally.{Tally}
 use Rattle.fb_report.specs.Texts.{rows_text}
-use Rattle.fb_words.specs.Words.{Decoding}
+use Rattle.fb_request.specs.Requests.{Decoding}
 
 -- ---- counts
 

@@ -21,10 +21,10 @@ use Rattle.fb_run.specs.InternalBatches.{AddsCounts, TakesBatch}
 use Rattle.fb_run.specs.Rows.{counts_of}
 use Rattle.fb_run.specs.InternalWrites.{WritesBatches, WritesFirstBatches, counts_in}
 use Rattle.fb_run.specs.declared.batches.Tally.{Tally}
-use Rattle.fb_shots.specs.declared.answer.Format.{Format}
+use Rattle.fb_request.specs.declared.format.Format.{Format}
 use Rattle.fb_shots.specs.Steps.{IsReadOut}
 use Rattle.fb_shots.specs.Streams.{Stream, fresh}
-use Rattle.fb_words.specs.Words.{Decoding}
+use Rattle.fb_request.specs.Requests.{Decoding}
 
 mul-more : (w n m : ℕ) → m ≡ n + 1 → w * m ≡ w * n + w
 mul-more w n m e = let next : m ≡ suc n = omega (arith, e) in ap (λ k. w * k) next ∙ mul-suc w n

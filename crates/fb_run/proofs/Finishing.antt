@@ -7,9 +7,9 @@ use Rattle.fb_ports.specs.Causes.{Appends, AppendsPrefix, CountsFault}
 use Rattle.fb_ports.proofs.Onward.{prefix_second}
 use Rattle.fb_report.specs.Texts.{head_text}
 use Rattle.fb_shots.specs.Shots.{Ending, at_end}
-use Rattle.fb_check.specs.Ends.{CountsReadFault, IsReadToItsEnd, MayFollowReadFault}
-use Rattle.fb_check.specs.TextEnds.{EndAfter, TextEnds, WritesPart, WritesWhole}
-use Rattle.fb_check.proofs.Checked.{appends_after, end_after}
+use Rattle.fb_endings.specs.Ends.{CountsReadFault, IsReadToItsEnd, MayFollowReadFault}
+use Rattle.fb_endings.specs.TextEnds.{EndAfter, TextEnds, WritesPart, WritesWhole}
+use Rattle.fb_endings.proofs.InText.{appends_after, end_after}
 use Rattle.fb_inputs.specs.Moments.{Moment}
 use Rattle.fb_inputs.proofs.Gathered.{gathers_opened, holds_opened}
 use Rattle.fb_inputs.proofs.Lists.{holds_more}
@@ -20,7 +20,7 @@ use Rattle.fb_run.specs.Decoding.{HaveWholeWindows, all_rows, batches_text, caus
 use Rattle.fb_run.specs.Endings.{decode_account, decode_source}
 use Rattle.fb_run.specs.Rows.{Counts, counts_of}
 use Rattle.fb_run.specs.InternalWrites.{EndsReport, WritesBatches, WritesFirstBatches, counts_in}
-use Rattle.fb_words.specs.Words.{Decoding}
+use Rattle.fb_request.specs.Requests.{Decoding}
 use Rattle.fb_endings.specs.declared.ending.Cause.{Cause}
 use Rattle.fb_endings.specs.declared.ending.Cause.TheVariants.{Done, Odd, ReadFault}
 use Rattle.fb_run.specs.declared.batches.Tally.{Tally}

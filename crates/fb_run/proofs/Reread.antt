@@ -4,7 +4,7 @@ use Rattle.std.specs.List.{concat, flat_map}
 use Rattle.std.proofs.lemmas.List.{map-append}
 use Rattle.std.proofs.lemmas.List.Sums.{sum_by-cons}
 use Rattle.fb_book.specs.declared.entries.Entry.{Entry}
-use Rattle.fb_check.specs.TextEnds.{whole_text}
+use Rattle.fb_endings.specs.TextEnds.{whole_text}
 use Rattle.fb_crew.specs.Windows.{is_best}
 use Rattle.fb_graph.specs.Limits.{DecodingGraph, ShotValue}
 use Rattle.fb_graph.specs.declared.parts.Row.{Row}
@@ -19,7 +19,7 @@ use Rattle.fb_run.specs.Rows.{counts_of, is_odd}
 use Rattle.fb_verify.specs.ReadBack.{Event, IsReportInRange, ReadsBack, TracedRow, event_text, report_text, report_with, rows_of, traced_text}
 use Rattle.fb_verify.specs.Reports.{report_in}
 use Rattle.fb_verify.specs.Reports as reports
-use Rattle.fb_words.specs.Words.{Decoding}
+use Rattle.fb_request.specs.Requests.{Decoding}
 
 -- ---- odd rows, as both crates count them
 

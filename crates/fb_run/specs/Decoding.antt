@@ -10,7 +10,7 @@ use Rattle.fb_graph.specs.declared.parts.Row.{Row}
 use Rattle.fb_plan.specs.Plans.{PlanTree}
 use Rattle.fb_report.specs.Texts.{rows_text, trace_line, done_text}
 use Rattle.fb_run.specs.Rows.{Counts, counts_of}
-use Rattle.fb_words.specs.Words.{Decoding}
+use Rattle.fb_request.specs.Requests.{Decoding}
 use Rattle.fb_endings.specs.declared.ending.Cause.{Cause}
 use Rattle.fb_endings.specs.declared.ending.Cause.TheVariants.{Done, Odd}
 

@@ -2,17 +2,15 @@
 use Rattle.std.specs.Prelude.{ℕ, ◌⊎◌, List, [], ◌∷◌, Option, Some, None}
 use Rattle.fb_graph.specs.Limits.{DecodingGraph}
 use Rattle.fb_plan.specs.Plans.{PlanTree, single_of}
-use Rattle.fb_check.specs.Ends.{EndsAtFile, EndsInText, IsGraphRefusal}
-use Rattle.fb_check.specs.TextEnds.{Account, Source, TextEnds}
+use Rattle.fb_endings.specs.Ends.{EndsAtFile, EndsInText, IsGraphRefusal, IsPlanRefusal}
+use Rattle.fb_endings.specs.TextEnds.{Account, Source, TextEnds}
 use Rattle.fb_run.specs.Decoding.{AreBatches, Batch, HaveWholeWindows, all_rows, batches_text, cause_of, last_line_of}
 use Rattle.fb_report.specs.Texts.{head_text}
-use Rattle.fb_inputs.specs.Judging.{Asks, Holds, IsGraphText, IsNoPlan, IsPlanText, Named}
+use Rattle.fb_inputs.specs.Judging.{Asks, IsGraphText, IsPlanText}
 use Rattle.fb_inputs.specs.Moments.{Moment, ReadsFile}
 use Rattle.fb_run.specs.Rows.{counts_of}
-use Rattle.fb_words.specs.Words.{Decoding}
+use Rattle.fb_request.specs.Requests.{Decoding}
 use Rattle.fb_endings.specs.declared.ending.Cause.{Cause}
-use Rattle.fb_endings.specs.declared.ending.Refusal.{Refusal}
-use Rattle.fb_endings.specs.declared.ending.Refusal.TheVariants as refusal
 
 -- a decode writes a right row for each shot, in batches
 abbrev pub decode_account : Decoding → DecodingGraph → PlanTree → Account Batch
@@ -38,14 +36,6 @@ EndsAtShots request g t before after cause =
 abbrev pub EndsOn : Decoding → DecodingGraph → PlanTree → Moment → Moment → Cause → Type 0
 EndsOn request g t before after cause =
     EndsInText head_text before after cause ⊎ EndsAtShots request g t before after cause
-
--- the text of the file of the name is no plan of the graph, and the refusal is its fault
-abbrev pub IsPlanRefusal : DecodingGraph → Named → List ℕ → Refusal → Type 0
-IsPlanRefusal g named name (refusal.Graph fault) = ⊥
-IsPlanRefusal g named name (refusal.Plan fault) = Holds named name (IsNoPlan g fault)
-IsPlanRefusal g named name (refusal.Report fault) = ⊥
-IsPlanRefusal g named name (refusal.Shot fault) = ⊥
-IsPlanRefusal g named name (refusal.Sample fault) = ⊥
 
 -- the file of the plan holds one of the graph, and the decode ended so by it
 pub record EndsWithPlan (request : Decoding) (g : DecodingGraph) (name : List ℕ) (before after : Moment) (cause : Cause) : Type 0 where

@@ -10,7 +10,7 @@ use Rattle.fb_run.specs.Decoding.{AnswersBatch, Batch}
 use Rattle.fb_run.specs.Rows.{counts_of}
 use Rattle.fb_run.specs.declared.batches.Tally.{Tally}
 use Rattle.fb_shots.specs.Streams.{Stream}
-use Rattle.fb_words.specs.Words.{Decoding}
+use Rattle.fb_request.specs.Requests.{Decoding}
 
 abbrev pub batch_in : Window → Batch
 batch_in w = record { rows = w.rows.items; history = w.history.items }

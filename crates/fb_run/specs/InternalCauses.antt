@@ -5,7 +5,7 @@ use Rattle.fb_endings.specs.declared.ending.Cause.TheVariants.{NoMemory, Refused
 use Rattle.fb_endings.specs.declared.ending.Refusal.TheVariants as refusal
 use Rattle.fb_gen.specs.declared.faults.GenFault.{GenFault}
 use Rattle.fb_gen.specs.declared.faults.GenFault.TheVariants as gen
-use Rattle.fb_words.specs.declared.usage.UsageKind.TheVariants as usage
+use Rattle.fb_request.specs.declared.usage.UsageKind.TheVariants as usage
 use Rattle.fb_words.specs.declared.words.WordsFault.{WordsFault}
 use Rattle.fb_words.specs.declared.words.WordsFault.TheVariants as fault
 

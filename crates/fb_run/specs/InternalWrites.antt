@@ -7,7 +7,7 @@ use Rattle.fb_plan.specs.Plans.{PlanTree}
 use Rattle.fb_ports.specs.Causes.{Appends, AppendsPrefix}
 use Rattle.fb_run.specs.Decoding.{AreBatches, Batch, HaveWholeWindows, all_rows, batches_text, cause_of, last_line}
 use Rattle.fb_run.specs.Rows.{Counts, counts_of}
-use Rattle.fb_words.specs.Words.{Decoding}
+use Rattle.fb_request.specs.Requests.{Decoding}
 use Rattle.fb_endings.specs.declared.ending.Cause.{Cause}
 use Rattle.fb_endings.specs.declared.ending.Cause.TheVariants.{Refused, ReadFault, WriteFault}
 use Rattle.fb_endings.specs.declared.ending.Refusal.TheVariants as refusal

@@ -1,7 +1,7 @@
 -- What the report of a decode gives to its reader.
 use Rattle.std.specs.Prelude.{ℕ, ◌≡◌, ◌+◌, ◌*◌, Bool, true, false, List, [], ◌∷◌, ◌++◌, length, map, Ok}
 use Rattle.fb_book.specs.declared.entries.Entry.{Entry}
-use Rattle.fb_check.specs.TextEnds.{whole_text}
+use Rattle.fb_endings.specs.TextEnds.{whole_text}
 use Rattle.fb_graph.specs.Limits.{DecodingGraph, ShotValue}
 use Rattle.fb_graph.specs.declared.parts.Row.{Row}
 use Rattle.fb_plan.specs.Plans.{PlanTree}
@@ -10,7 +10,7 @@ use Rattle.fb_run.specs.Endings.{decode_account}
 use Rattle.fb_run.specs.Rows.{counts_of}
 use Rattle.fb_verify.specs.ReadBack.{Event, IsReportInRange, TracedRow, report_with}
 use Rattle.fb_verify.specs.Reports.{report_in}
-use Rattle.fb_words.specs.Words.{Decoding}
+use Rattle.fb_request.specs.Requests.{Decoding}
 
 -- the event of an entry of a batch whose first shot has this number
 abbrev pub event_of : ℕ → Entry → Event

@@ -2,15 +2,15 @@
 use Rattle.std.specs.Prelude.{ℕ, ◌≡◌, ◌⊎◌, List, [], Option, Result, Ok, Err, ⊤}
 use Rattle.fb_ports.specs.Causes.{Appends}
 use Rattle.fb_check.specs.CheckEndings.{CheckEnds}
-use Rattle.fb_check.specs.Ends.{IsReadToItsEnd}
+use Rattle.fb_endings.specs.Ends.{IsReadToItsEnd}
 use Rattle.fb_run.specs.Endings.{DecodeEnds}
 use Rattle.fb_run.specs.SampleEndings.{SampleEnds}
 use Rattle.fb_inputs.specs.Judging.{Asks, IsReadOutIfNamed, Named}
 use Rattle.fb_inputs.specs.Moments.{Moment}
-use Rattle.fb_words.specs.Words.{Request, check, decode, sample}
+use Rattle.fb_request.specs.Requests.{Request, check, decode, sample}
 use Rattle.fb_endings.specs.declared.ending.Cause.{Cause}
 use Rattle.fb_endings.specs.declared.ending.Cause.TheVariants.{NoMemory, Usage}
-use Rattle.fb_words.specs.declared.usage.UsageKind.{UsageKind}
+use Rattle.fb_request.specs.declared.usage.UsageKind.{UsageKind}
 
 -- the end of what the words ask for
 abbrev pub RequestEnds : Request → Moment → Moment → Cause → Type 0

@@ -10,7 +10,7 @@ use Rattle.fb_gen.specs.declared.faults.GenFault.{GenFault}
 use Rattle.fb_graph.specs.Limits.{DecodingGraph}
 use Rattle.fb_plan.specs.Plans.{PlanTree}
 use Rattle.fb_ports.specs.Causes.{Appends, AppendsPrefix}
-use Rattle.fb_words.specs.Words.{Sampling}
+use Rattle.fb_request.specs.Requests.{Sampling}
 use Rattle.fb_run.specs.Samples.{HaveSums, sample_text}
 
 -- The text of a sample: of the lattice, its plan by time, and the shots that are drawn on it and decoded.

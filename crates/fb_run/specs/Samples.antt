@@ -7,7 +7,7 @@ use Rattle.fb_graph.specs.declared.parts.Row.{Row}
 use Rattle.fb_graph.specs.declared.parts.Row.TheVariants.{Best, Odd}
 use Rattle.fb_plan.specs.Plans.{PlanTree}
 use Rattle.fb_report.specs.Texts.{line}
-use Rattle.fb_words.specs.Words.{Sampling}
+use Rattle.fb_request.specs.Requests.{Sampling}
 
 -- The shots that are drawn one after another from a state of the generator, which goes on from shot to shot: each edge
 -- of a shot takes one draw.

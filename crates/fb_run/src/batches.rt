@@ -14,7 +14,7 @@ ghost use Rattle.fb_book.specs.declared.limits.TheConstants.{MOST_AT_ONCE};
 ghost use Rattle.fb_run.specs.Decoding.{batch_text, cause_of, events_text};
 ghost use Rattle.fb_run.specs.InternalBatches.{AddsCounts, TakesBatch, batch_in};
 ghost use Rattle.fb_run.specs.InternalWrites.{WritesBatches, WritesFirstBatches, counts_in, tally_with};
-ghost use Rattle.fb_words.specs.PlainRequests.{plain_decoding};
+ghost use Rattle.fb_request.specs.PlainRequests.{plain_decoding};
 
 use fb_crew::{Crew, Entry, Gate, Kind, Window};
 use fb_endings::Cause;
@@ -22,8 +22,8 @@ use fb_graph::{CutList, Graph, NoMemory, NumberList, Row, Shot};
 use fb_inputs::{MOST_SHOTS, Outbox, RowsFault, ShotsEnd, take_window};
 use fb_ports::{Files, Sink};
 use fb_report::{write_row, write_trace};
+use fb_request::Decoding;
 use fb_shots::ShotStream;
-use fb_words::Decoding;
 use std::alloc::Global;
 use std::sync::Wait;
 use std::thread::Threads;

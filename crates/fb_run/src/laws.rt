@@ -1,5 +1,8 @@
-//! A theorem on the definitions alone: a function that does nothing, and ensures it.
+//! What follows from the definitions alone. Each function does nothing: its clauses are the law.
 
+ghost use Rattle.std.specs.Prelude.{◌≡◌};
+ghost use Rattle.fb_book.specs.declared.limits.TheConstants as crews;
+ghost use Rattle.fb_request.specs.declared.limits.TheConstants as runs;
 ghost use Rattle.fb_run.specs.ReadBack.{ReadsBackReport};
 
 /// The whole report that a decode writes, with `--trace` or without, is read as its rows, however long it is.
@@ -8,3 +11,9 @@ pub fn reads_back()
 {
     fb_verify::reads_back();
 }
+
+/// A crew takes as many workers, and as many shots at once, as a run may have.
+pub fn limits_of_crews()
+    ensures workers { crews.MOST_WORKERS ≡ runs.MOST_WORKERS }
+    ensures shots { crews.MOST_AT_ONCE ≡ runs.MOST_AT_ONCE }
+{}

@@ -11,6 +11,6 @@ mod sampling;
 
 pub use fb_crew::{Gate, OpenGate};
 pub use fb_endings::{Cause, Ended, Refusal, say};
-pub use fb_words::UsageKind;
-pub use laws::reads_back;
+pub use fb_request::UsageKind;
+pub use laws::{limits_of_crews, reads_back};
 pub use running::run;

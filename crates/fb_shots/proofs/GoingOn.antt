@@ -13,7 +13,7 @@ use Rattle.fb_shots_stim.proofs.LemmasDets.{stays_dets}
 use Rattle.fb_shots_json.specs.TextJson.{line_json, begun_json}
 use Rattle.fb_shots_json.proofs.TextLemmas.{stays_json}
 use Rattle.fb_shots.specs.declared.answer.Kind.TheVariants as kind
-use Rattle.fb_shots.specs.declared.answer.Format.TheVariants.{Text01, B8, Dets, Json}
+use Rattle.fb_request.specs.declared.format.Format.TheVariants.{Text01, B8, Dets, Json}
 use Rattle.fb_shots.specs.Shots.{GoesOn}
 use Rattle.fb_shots.specs.Formats.{shot_of_detectors, shot_of_vertices, GoesOnAnywhere}
 

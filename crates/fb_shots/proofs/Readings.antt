@@ -12,8 +12,8 @@ use Rattle.fb_shots_json.specs.declared.answer.Kind.{Kind as JsonKind}
 use Rattle.fb_shots_json.specs.TextJson.{records_json, prefix_json, after_record}
 use Rattle.fb_shots.specs.declared.answer.Kind.{Kind}
 use Rattle.fb_shots.specs.declared.answer.Kind.TheVariants as kind
-use Rattle.fb_shots.specs.declared.answer.Format.{Format}
-use Rattle.fb_shots.specs.declared.answer.Format.TheVariants as format
+use Rattle.fb_request.specs.declared.format.Format.{Format}
+use Rattle.fb_request.specs.declared.format.Format.TheVariants as format
 use Rattle.fb_shots.specs.Shots.{refused, Shots, only, with_first_shot}
 use Rattle.fb_shots.specs.Formats.{shot_of_detectors, shot_of_vertices, of_stim, of_json, records_of, prefix_of}
 use Rattle.fb_shots.specs.InternalSources.{Source}

@@ -8,8 +8,8 @@ use Rattle.fb_shots_stim.specs.BlocksB8.{records_b8, prefix_b8}
 use Rattle.fb_shots_stim.specs.TextDets.{records_dets, prefix_dets}
 use Rattle.fb_shots_json.specs.declared.answer.Kind.{Kind as JsonKind}
 use Rattle.fb_shots_json.specs.TextJson.{records_json, prefix_json}
-use Rattle.fb_shots.specs.declared.answer.Format.{Format}
-use Rattle.fb_shots.specs.declared.answer.Format.TheVariants.{Text01, B8, Dets, Json}
+use Rattle.fb_request.specs.declared.format.Format.{Format}
+use Rattle.fb_request.specs.declared.format.Format.TheVariants.{Text01, B8, Dets, Json}
 use Rattle.fb_shots.specs.declared.answer.Kind.TheVariants as kind
 use Rattle.fb_shots.specs.Shots.{Shots, GoesOn}
 

@@ -1,8 +1,8 @@
 -- The readers of the formats, seen alike.
 use Rattle.std.specs.Prelude.{◌≡◌, ℕ, Bool, List, length}
 use Rattle.fb_graph.specs.Limits.{DecodingGraph, detectors_of}
-use Rattle.fb_shots.specs.declared.answer.Format.{Format}
-use Rattle.fb_shots.specs.declared.answer.Format.TheVariants as format
+use Rattle.fb_request.specs.declared.format.Format.{Format}
+use Rattle.fb_request.specs.declared.format.Format.TheVariants as format
 use Rattle.fb_shots.specs.declared.reader.FormatReader.{FormatReader}
 use Rattle.fb_shots.specs.declared.reader.FormatReader.TheVariants.{Text01, B8, Dets, Json}
 use Rattle.fb_shots.specs.InternalSources.{Source}

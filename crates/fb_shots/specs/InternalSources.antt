@@ -1,7 +1,7 @@
 -- A reader of any format, and a stream by its reader.
 use Rattle.std.specs.Prelude.{ℕ, Bool, List, ◌++◌, Option}
 use Rattle.fb_graph.specs.Limits.{DecodingGraph}
-use Rattle.fb_shots.specs.declared.answer.Format.{Format}
+use Rattle.fb_request.specs.declared.format.Format.{Format}
 use Rattle.fb_shots.specs.declared.answer.Kind.{Kind}
 use Rattle.fb_shots.specs.Streams.{Stream}
 

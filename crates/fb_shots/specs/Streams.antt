@@ -1,7 +1,7 @@
 -- A stream of shots, and what it gives.
 use Rattle.std.specs.Prelude.{ℕ, ◌+◌, ◌-◌, nat_le, Bool, false, if◌then◌else◌, List, [], ◌++◌, length, take, Option, Some, None}
 use Rattle.fb_graph.specs.Limits.{DecodingGraph}
-use Rattle.fb_shots.specs.declared.answer.Format.{Format}
+use Rattle.fb_request.specs.declared.format.Format.{Format}
 use Rattle.fb_shots.specs.declared.answer.Kind.{Kind}
 use Rattle.fb_shots.specs.declared.answer.Kind.TheVariants.{InputTooLong}
 use Rattle.fb_shots.specs.Shots.{Ending, at_end, still_open, refused, Shots, only, capped_shots}

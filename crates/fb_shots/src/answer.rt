@@ -5,21 +5,10 @@ ghost use Rattle.fb_shots.specs.FaultTexts.{kind_name};
 
 use fb_graph::Shot;
 
+/// How shots are written.
+pub use fb_request::Format;
 /// There was not enough memory.
 pub use std::alloc::AllocError as NoMemory;
-
-/// How shots are written: the first three are result formats of Stim.
-#[derive(Clone, Copy, Debug, PartialEq, Eq)]
-pub enum Format {
-    /// `01`: a line for each shot, a byte `0` or `1` for each detector.
-    Text01,
-    /// `b8`: a block of bytes for each shot, a bit for each detector.
-    B8,
-    /// `dets`: a line for each shot, a word for each detector that fired.
-    Dets,
-    /// `json`: a JSON value on a line for each shot, as Fusion Blossom writes a syndrome.
-    Json,
-}
 
 /// Why a record is refused, or why no further one is given.
 #[derive(Clone, Copy, Debug, PartialEq, Eq)]

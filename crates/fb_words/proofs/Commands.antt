@@ -23,12 +23,12 @@ use Rattle.clap.proofs.WalkLemmas.{first_value-rows}
 use Rattle.fb_words.proofs.PassedRows.{RowsPass, level_rows_pass, none_first, none_then, only_of_single, required_word, word_accepted}
 use Rattle.fb_words.specs.Command.{decode_app, flag_rule, fusion_app, number_rule, plain_app, required_number_rule, sample_app}
 use Rattle.fb_words.specs.InternalOptions.{HasNumber, HasNumberIfGiven, HasOptions}
-use Rattle.fb_words.specs.Ranges.{Range}
-use Rattle.fb_words.specs.Ranges as ranges
-use Rattle.fb_words.specs.PlainRequests.{IsFaultOf, usage_of}
+use Rattle.fb_request.specs.Ranges.{Range}
+use Rattle.fb_request.specs.Ranges as ranges
+use Rattle.fb_words.specs.Faults.{IsFaultOf, usage_of}
 use Rattle.fb_words.specs.Words.{command_request, request_of, request_unless, is_command, is_command_name}
-use Rattle.fb_words.specs.declared.usage.UsageKind.{UsageKind}
-use Rattle.fb_words.specs.declared.usage.UsageKind.TheVariants as usage
+use Rattle.fb_request.specs.declared.usage.UsageKind.{UsageKind}
+use Rattle.fb_request.specs.declared.usage.UsageKind.TheVariants as usage
 use Rattle.fb_words.specs.declared.words.WordsFault.{WordsFault}
 use Rattle.fb_words.specs.declared.words.WordsFault.TheVariants as fault
 

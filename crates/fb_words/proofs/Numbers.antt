@@ -7,13 +7,14 @@ use Rattle.clap.specs.Matches.{ReadsOne}
 use Rattle.clap.specs.Words.{Row, Text, first_of, one_of, one_text, rows_of}
 use Rattle.clap.specs.declared.parser.matches.Found.{Found}
 use Rattle.clap.proofs.WalkLemmas.{one_text-rows}
-use Rattle.fb_shots.specs.declared.answer.Format.{Format}
-use Rattle.fb_words.specs.declared.usage.UsageKind.{UsageKind}
-use Rattle.fb_words.specs.declared.usage.UsageKind.TheVariants as usage
+use Rattle.fb_request.specs.declared.format.Format.{Format}
+use Rattle.fb_request.specs.declared.usage.UsageKind.{UsageKind}
+use Rattle.fb_request.specs.declared.usage.UsageKind.TheVariants as usage
 use Rattle.fb_words.specs.InternalOptions.{HasDecodeOptions, HasOptions, HasSampleOptions, HasNumber, HasNumberIfGiven, WritesBelow, WritesWithin}
-use Rattle.fb_words.specs.Ranges.{IsWithin, Range}
-use Rattle.fb_words.specs.Ranges as ranges
-use Rattle.fb_words.specs.Words.{Request, IsInRanges, IsSampleInRanges, accepted_format, check, checking_of, command_request, decode, decoding_of, request_with, format_of, given_number, number_in, number_of, option_of, sample, sampling_of, trace_of, window_of, workers_of}
+use Rattle.fb_request.specs.Ranges.{IsWithin, Range}
+use Rattle.fb_request.specs.Ranges as ranges
+use Rattle.fb_request.specs.Requests.{Request, IsInRanges, IsSampleInRanges, check, decode, sample}
+use Rattle.fb_words.specs.Words.{accepted_format, checking_of, command_request, decoding_of, request_with, format_of, given_number, number_in, number_of, option_of, sampling_of, trace_of, window_of, workers_of}
 
 -- ---- what a getter returns
 

@@ -1,9 +1,10 @@
 -- A request whose format is refused.
 use Rattle.std.proofs.Common.{refl, Result}
-use Rattle.fb_shots.specs.declared.answer.Format.{Format}
-use Rattle.fb_words.specs.PlainRequests.{IsFaultOf}
-use Rattle.fb_words.specs.Words.{Request, request_with}
-use Rattle.fb_words.specs.declared.usage.UsageKind.{UsageKind}
+use Rattle.fb_request.specs.declared.format.Format.{Format}
+use Rattle.fb_words.specs.Faults.{IsFaultOf}
+use Rattle.fb_request.specs.Requests.{Request}
+use Rattle.fb_words.specs.Words.{request_with}
+use Rattle.fb_request.specs.declared.usage.UsageKind.{UsageKind}
 use Rattle.fb_words.specs.declared.words.WordsFault.{WordsFault}
 use Rattle.fb_words.specs.declared.words.WordsFault.TheVariants as fault
 

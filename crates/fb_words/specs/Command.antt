@@ -3,7 +3,7 @@ use Rattle.std.specs.Prelude.{true, Some, codes}
 use Rattle.clap.specs.Words.{App, Rule, Text, new_app, new_rule, with_rule, with_subcommand}
 use Rattle.clap.specs.declared.builder.ArgAction.TheVariants.{Set, SetTrue}
 use Rattle.clap.specs.declared.builder.value_parser.ValueParser.TheVariants.{Unsigned}
-use Rattle.fb_words.specs.Ranges.{Range, distances, rates, rounds, shots, starts, units, windows, workers}
+use Rattle.fb_request.specs.Ranges.{Range, distances, rates, rounds, shots, starts, units, windows, workers}
 
 -- an option that may be given, once, as `--name value`
 abbrev pub free_rule : Text → Rule

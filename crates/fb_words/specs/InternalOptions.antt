@@ -2,8 +2,8 @@
 use Rattle.std.specs.Prelude.{◌≡◌, ◌⊎◌, ◌<◌, ℕ, List, Option, Some, None, IfSome, IsSomeAnd, bytes_eq, codes, true, ⊤}
 use Rattle.std.specs.Str.Parse.{IsNumeral, without_leading_plus}
 use Rattle.clap.specs.Words.{IsUnsignedIn, Row, Text, one_of}
-use Rattle.fb_words.specs.Ranges.{Range}
-use Rattle.fb_words.specs.Ranges as ranges
+use Rattle.fb_request.specs.Ranges.{Range}
+use Rattle.fb_request.specs.Ranges as ranges
 use Rattle.fb_words.specs.Words.{number_in}
 
 -- the word is a number in the range

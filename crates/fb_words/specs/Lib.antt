@@ -1,7 +1,6 @@
-pub mod Ranges
 pub mod Command
 pub mod Words
 pub mod InternalOptions
-pub mod PlainRequests
+pub mod Faults
 pub mod Taken
 pub mod InternalCommands

@@ -1,52 +1,15 @@
 -- What the words of a command line ask for.
-use Rattle.std.specs.Prelude.{◌||◌, ℕ, Bool, false, List, [], ◌∷◌, codes, bytes_eq, count_by, nat_lt, option_map, unwrap_or, if◌then◌else◌, Option, Some, None, Result, Ok, Err, ⊤}
+use Rattle.std.specs.Prelude.{◌||◌, ℕ, Bool, false, List, [], ◌∷◌, codes, bytes_eq, count_by, nat_lt, option_map, unwrap_or, if◌then◌else◌, Option, Some, None, Result, Ok, Err}
 use Rattle.std.specs.Option.{option_map_or}
 use Rattle.std.specs.Str.Parse.{digits_value, without_leading_plus}
 use Rattle.clap.specs.Kinds.{Kinds}
 use Rattle.clap.specs.Words.{Row, Text, fault_of, first_of, one_of, subcommand_of}
 use Rattle.fb_words.specs.Command.{fusion_app}
-use Rattle.fb_words.specs.Ranges.{IsWithin}
-use Rattle.fb_words.specs.Ranges as ranges
-use Rattle.fb_shots.specs.declared.answer.Format.{Format}
-use Rattle.fb_shots.specs.declared.answer.Format.TheVariants.{Text01, B8, Dets, Json}
-use Rattle.fb_words.specs.declared.usage.UsageKind.{UsageKind}
-use Rattle.fb_words.specs.declared.usage.UsageKind.TheVariants as usage
-
--- What `decode` asks for: the names of the graph, of the plan if one is given, and of the shots, and their format; how
--- many workers solve parts side by side, and how many shots are solved at once; whether a trace is written.
-pub record Decoding : Type 0 where
-  pub graph : Text
-  pub plan : Option Text
-  pub shots : Text
-  pub format : Format
-  pub workers : ℕ
-  pub window : ℕ
-  pub trace : Bool
-
--- what `check` asks for: the same, and the name of the report
-pub record Checking : Type 0 where
-  pub graph : Text
-  pub shots : Text
-  pub format : Format
-  pub report : Text
-
--- What `sample` asks for: the distance and the rounds of the lattice, and the units of its plan; the rate at which edges
--- are hit (of 1,048,576), the state at which the draws start, and how many shots are drawn; workers and window as above.
-pub record Sampling : Type 0 where
-  pub distance : ℕ
-  pub rounds : ℕ
-  pub units : ℕ
-  pub rate : ℕ
-  pub start : ℕ
-  pub shots : ℕ
-  pub workers : ℕ
-  pub window : ℕ
-
--- what a command line asks for
-pub data Request : Type 0 where
-  decode : Decoding → Request
-  check : Checking → Request
-  sample : Sampling → Request
+use Rattle.fb_request.specs.Requests.{Request, Sampling, check, decode, sample}
+use Rattle.fb_request.specs.declared.format.Format.{Format}
+use Rattle.fb_request.specs.declared.format.Format.TheVariants.{Text01, B8, Dets, Json}
+use Rattle.fb_request.specs.declared.usage.UsageKind.{UsageKind}
+use Rattle.fb_request.specs.declared.usage.UsageKind.TheVariants as usage
 
 -- the format that a word names
 abbrev pub format_of : Text → Option Format
@@ -165,19 +128,3 @@ request_unless (fault ∷ faults) command = Err usage.Parse
 -- help or the version; `--format` is none of the four; more than one name is that of standard input.
 abbrev pub request_of : List Text → Result Request UsageKind
 request_of words = request_unless (fault_of fusion_app words) (subcommand_of fusion_app words)
-
--- the numbers are in the ranges of their options
-pub record IsSampleInRanges (s : Sampling) : Type 0 where
-  pub distance : IsWithin ranges.distances s.distance
-  pub rounds : IsWithin ranges.rounds s.rounds
-  pub units : IsWithin ranges.units s.units
-  pub rate : IsWithin ranges.rates s.rate
-  pub start : IsWithin ranges.starts s.start
-  pub shots : IsWithin ranges.shots s.shots
-  pub workers : IsWithin ranges.workers s.workers
-  pub window : IsWithin ranges.windows s.window
-
-abbrev pub IsInRanges : Request → Type 0
-IsInRanges (decode d) = IsWithin ranges.workers d.workers × IsWithin ranges.windows d.window
-IsInRanges (check c) = ⊤
-IsInRanges (sample s) = IsSampleInRanges s

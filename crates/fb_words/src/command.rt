@@ -4,8 +4,8 @@ ghost use Rattle.std.specs.Prelude.{◌≡◌, IfOk, Ok, codes};
 ghost use Rattle.clap.specs.Words.{App, app_of, new_app, with_subcommand};
 ghost use Rattle.fb_words.specs.Command.{check_app, decode_app, flag_rule, free_rule, fusion_app, number_rule, option_rule, required_number_rule, sample_app};
 ghost use Rattle.fb_words.specs.InternalCommands.{AreOptions, IsCommand, IsOption, bare_app};
-ghost use Rattle.fb_words.specs.Ranges.{Range};
-ghost use Rattle.fb_words.specs.Ranges as ranges;
+ghost use Rattle.fb_request.specs.Ranges.{Range};
+ghost use Rattle.fb_request.specs.Ranges as ranges;
 
 use crate::help;
 use clap::builder::ValueParser;
@@ -17,10 +17,10 @@ use std::ops::RangeInclusive;
 const VERSION: &str = "0.1.0";
 
 /// The most workers that may solve parts side by side.
-const MOST_WORKERS: u64 = fb_book::limits::MOST_WORKERS as u64;
+const MOST_WORKERS: u64 = fb_request::MOST_WORKERS as u64;
 
 /// The most shots that may be solved at once.
-const MOST_AT_ONCE: u64 = fb_book::limits::MOST_AT_ONCE as u64;
+const MOST_AT_ONCE: u64 = fb_request::MOST_AT_ONCE as u64;
 
 /// The least distance of a lattice.
 const LEAST_DISTANCE: u64 = 2;
@@ -57,19 +57,10 @@ fn with_command<'a>(
     ensures { (whole app : App) → IfOk program.entry (λ c. app_of c ≡ whole) → IfOk command.entry (IsCommand app)
         → IfOk result (λ c. app_of c ≡ with_subcommand whole app.top) }
 {
-    let (program, command) = both(program, command)?;
+    let Some((program, command)) = program.ok().zip(command.ok()) else {
+        return Err(AllocError);
+    };
     program.subcommand(command)
-}
-
-/// Both values, if both were made.
-fn both<A: Drop, B: Drop>(
-    first: Result<A, AllocError>,
-    second: Result<B, AllocError>,
-) -> Result<(A, B), AllocError>
-    ensures { IfOk result (λ pair. (first ≡ Ok pair.0) × (second ≡ Ok pair.1)) }
-{
-    let first = first?;
-    Ok((first, second?))
 }
 
 /// The program, without its commands.

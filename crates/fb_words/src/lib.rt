@@ -4,8 +4,6 @@
 
 mod command;
 mod help;
-mod usage;
 mod words;
 
-pub use usage::UsageKind;
-pub use words::{Checking, Decoding, Request, Sampling, WordsFault, read_words};
+pub use words::{WordsFault, read_words};

@@ -3,68 +3,19 @@
 ghost use Rattle.std.specs.Prelude.{◌≡◌, ◌≢◌, ◌<◌, ◌^◌, true, codes, map, string_bytes, IfOk, IfErr, IfSome};
 ghost use Rattle.clap.specs.Words.{found_of, kind_of, one_of, rows_of, subcommand_rows_of, takes};
 ghost use Rattle.fb_words.specs.Command.{fusion_app};
-ghost use Rattle.fb_words.specs.declared.usage.UsageKind.{UsageKind};
+ghost use Rattle.fb_request.specs.declared.usage.UsageKind.{UsageKind};
 ghost use Rattle.fb_words.specs.InternalOptions.{HasDecodeOptions, HasNumberIfGiven, HasOptions, HasSampleOptions, WritesBelow};
-ghost use Rattle.fb_words.specs.Ranges as ranges;
-ghost use Rattle.fb_words.specs.PlainRequests.{IsFaultOf, plain_request, plain_sampling, usage_of};
-ghost use Rattle.fb_words.specs.Words.{IsInRanges, accepted_format, checking_of, command_request, decoding_of, request_of, format_of, has_two_inputs, is_command, number_of, option_of, sampling_of, trace_of, window_of, workers_of};
+ghost use Rattle.fb_request.specs.Ranges as ranges;
+ghost use Rattle.fb_words.specs.Faults.{IsFaultOf, usage_of};
+ghost use Rattle.fb_request.specs.PlainRequests.{plain_request, plain_sampling};
+ghost use Rattle.fb_request.specs.Requests.{IsInRanges};
+ghost use Rattle.fb_words.specs.Words.{accepted_format, checking_of, command_request, decoding_of, request_of, format_of, has_two_inputs, is_command, number_of, option_of, sampling_of, trace_of, window_of, workers_of};
 
 use crate::command::fusion;
 use clap::ArgMatches;
 use clap::error::{Error, ErrorKind};
-use fb_shots::Format;
+use fb_request::{Checking, Decoding, Format, Request, Sampling};
 use std::alloc::Global;
-
-/// What a command line asks for.
-#[derive(Clone, Copy)]
-pub enum Request<'a> {
-    Decode(Decoding<'a>),
-    Check(Checking<'a>),
-    Sample(Sampling),
-}
-
-/// Shots to decode: the names of the graph, of the plan if one is given, and of the shots, `-` for standard input; how
-/// many workers solve parts side by side, and how many shots are solved at once, each 1 to 64; whether to write a trace.
-#[derive(Clone, Copy)]
-pub struct Decoding<'a> {
-    pub graph: &'a str,
-    pub plan: Option<&'a str>,
-    pub shots: &'a str,
-    pub format: Format,
-    pub workers: u32,
-    pub window: u32,
-    pub trace: bool,
-}
-
-/// A report to check: the names of the graph, of the shots and of the report, `-` for standard input.
-#[derive(Clone, Copy)]
-pub struct Checking<'a> {
-    pub graph: &'a str,
-    pub shots: &'a str,
-    pub format: Format,
-    pub report: &'a str,
-}
-
-/// Shots to draw on a lattice and to decode.
-#[derive(Clone, Copy)]
-pub struct Sampling {
-    /// The distance of the lattice, 2 to 255.
-    pub distance: u32,
-    /// The rounds of the lattice, 1 to 1,048,576.
-    pub rounds: u32,
-    /// The units of its plan, 1 to 4,096.
-    pub units: u32,
-    /// In how many of 1,048,576 draws an edge is hit, 0 to 1,048,576.
-    pub rate: u32,
-    /// The state at which the draws start.
-    pub start: u64,
-    /// How many shots are drawn, 1 to 1,000,000.
-    pub shots: u32,
-    /// How many workers solve parts side by side, 1 to 64.
-    pub workers: u32,
-    /// How many shots are solved at once, 1 to 64.
-    pub window: u32,
-}
 
 /// Why a command line is refused.
 #[derive(Debug, Drop)]

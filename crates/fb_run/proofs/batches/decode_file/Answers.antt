@@ -1,5 +1,5 @@
 use Rattle.fb_run.proofs.Decoded.{none_decoded}
-use Rattle.fb_words.specs.PlainRequests.{plain_decoding}
+use Rattle.fb_request.specs.PlainRequests.{plain_decoding}
 use Rattle.fb_run.proofs.batches.decode_file.Goals as goal
 
 pub returns-in_default-clause-first : goal.returns-in_default-clause-first

@@ -3,7 +3,7 @@ use Rattle.fb_crew.specs.Crews.{CrewValue}
 use Rattle.fb_ports.specs.Causes.{Rose}
 use Rattle.fb_run.proofs.Decoded.{all_decoded, all_read_out, decoding_begins, decoding_more, few_decoded, fits_more, more_first, slots_more, so_far_first}
 use Rattle.fb_run.specs.InternalBatches.{TakesBatch, batch_in}
-use Rattle.fb_words.specs.PlainRequests.{plain_decoding}
+use Rattle.fb_request.specs.PlainRequests.{plain_decoding}
 use Rattle.fb_run.proofs.batches.decode_stream.Goals as goal
 use Rattle.fb_run.proofs.batches.decode_stream.Goals.{In-Ok}
 

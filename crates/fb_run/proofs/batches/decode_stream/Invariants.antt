@@ -1,6 +1,6 @@
 use Rattle.std.proofs.Common.{◌≡◌, ◌-◌, []}
 use Rattle.fb_run.proofs.Decoded.{IsDecoding}
-use Rattle.fb_words.specs.PlainRequests.{plain_decoding}
+use Rattle.fb_request.specs.PlainRequests.{plain_decoding}
 use Rattle.fb_run.proofs.batches.decode_stream.Given as goal
 
 abbrev pub invariant-loop-next : goal.invariant-loop-next

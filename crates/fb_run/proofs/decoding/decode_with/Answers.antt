@@ -1,7 +1,7 @@
 use Rattle.std.proofs.Common.{ℕ, [], inl, inr, refl, sym, subst, append-nil}
 use Rattle.fb_report.specs.Texts.{head_text}
-use Rattle.fb_check.specs.Ends.{CountsReadFault}
-use Rattle.fb_words.specs.PlainRequests.{plain_decoding}
+use Rattle.fb_endings.specs.Ends.{CountsReadFault}
+use Rattle.fb_request.specs.PlainRequests.{plain_decoding}
 use Rattle.fb_inputs.specs.Moments.{moment}
 use Rattle.fb_inputs.proofs.Inputs.{asks_kept, asks_one, asks_same}
 use Rattle.fb_inputs.proofs.Gathered.{is_opened, is_unopened, read_out_opened}

@@ -1,6 +1,6 @@
 use Rattle.std.proofs.Common.{◌^◌, arith, codes}
 use Rattle.clap.specs.Words.{found_of, rows_of}
-use Rattle.fb_words.specs.Ranges as ranges
+use Rattle.fb_request.specs.Ranges as ranges
 use Rattle.fb_words.proofs.Numbers.{below_of_given}
 use Rattle.fb_words.proofs.words.read_sampling.Goals as goal
 

@@ -1,6 +1,6 @@
 use Rattle.std.proofs.lemmas.Result.{IfOk-weaker}
 use Rattle.clap.specs.Words.{subcommand_rows_of}
-use Rattle.fb_words.specs.PlainRequests.{plain_request}
+use Rattle.fb_request.specs.PlainRequests.{plain_request}
 use Rattle.fb_words.proofs.Numbers.{request_in_ranges}
 use Rattle.fb_words.proofs.words.read_words.Goals as goal
 

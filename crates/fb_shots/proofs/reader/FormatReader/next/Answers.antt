@@ -6,7 +6,7 @@ use Rattle.fb_records.specs.Lines.{after_line}
 use Rattle.fb_shots_stim.specs.Text01.{records_01, prefix_01}
 use Rattle.fb_shots_stim.specs.BlocksB8.{block_len, records_b8, prefix_b8}
 use Rattle.fb_shots_stim.specs.TextDets.{after_record, records_dets, prefix_dets}
-use Rattle.fb_shots.specs.declared.answer.Format.TheVariants as format
+use Rattle.fb_request.specs.declared.format.Format.TheVariants as format
 use Rattle.fb_shots.specs.declared.reader.FormatReader.{FormatReader}
 use Rattle.fb_shots.specs.declared.reader.FormatReader.TheVariants.{Text01, B8, Dets, Json}
 use Rattle.fb_shots.specs.Formats.{shot_of_vertices, of_stim}

@@ -1,3 +1,5 @@
+//! What may be wrong with a command line.
+
 /// What is wrong with a command line.
 #[derive(Clone, Copy, Debug, PartialEq, Eq)]
 pub enum UsageKind {

@@ -2,13 +2,13 @@
 
 ghost use Rattle.std.specs.Prelude.{◌≡◌, ◌≢◌, ◌<◌, [], ◌∷◌, ℕ, List, Option, IfOk, IfErr, OnOk};
 ghost use Rattle.fb_ports.specs.Causes.{HasRoom};
-ghost use Rattle.fb_check.specs.Ends.{CountsReadFault, EndsAtFile, IsGraphRefusal, IsReadToItsEnd};
-ghost use Rattle.fb_check.specs.InternalCauses.{cause_at_file};
+ghost use Rattle.fb_endings.specs.Ends.{CountsReadFault, EndsAtFile, IsGraphRefusal, IsReadToItsEnd};
+ghost use Rattle.fb_endings.specs.InternalCauses.{cause_at_file};
 ghost use Rattle.fb_inputs.specs.Judging.{Asks, Holds, IsGraphText};
 ghost use Rattle.fb_inputs.specs.Moments.{moment};
 ghost use Rattle.fb_endings.specs.declared.ending.Refusal.TheVariants as refusal;
 
-use fb_endings::{Cause, Refusal};
+use crate::ending::{Cause, Refusal};
 use fb_graph::Graph;
 use fb_graph_in::TextFault;
 use fb_inputs::{FileFault, read_graph_file};
@@ -61,7 +61,7 @@ pub fn cause_of_plan(fault: FileFault<PlanFault>) -> Cause
 }
 
 /// The cause of a command's end, by the fault of its report's file.
-pub(crate) fn cause_of_report(fault: FileFault<ReportFault>) -> Cause
+pub fn cause_of_report(fault: FileFault<ReportFault>) -> Cause
     ensures { result ≡ cause_at_file refusal.Report fault }
 {
     match fault {

@@ -1,7 +1,8 @@
 -- The ends that the commands have in common: at a file, in the first text, and what an end says of the input.
 use Rattle.std.specs.Prelude.{ℕ, ◌≡◌, ◌<◌, ◌≤◌, ◌⊎◌, List, [], ◌∷◌, ⊤}
+use Rattle.fb_graph.specs.Limits.{DecodingGraph}
 use Rattle.fb_ports.specs.Causes.{Appends, AppendsPrefix, Rose}
-use Rattle.fb_inputs.specs.Judging.{Asks, AsksPrefix, Holds, IsNoGraph, Named}
+use Rattle.fb_inputs.specs.Judging.{Asks, AsksPrefix, Holds, IsNoGraph, IsNoPlan, IsNoReport, Named}
 use Rattle.fb_inputs.specs.Moments.{Moment}
 use Rattle.fb_endings.specs.declared.ending.Cause.{Cause}
 use Rattle.fb_endings.specs.declared.ending.Cause.TheVariants.{Done, Odd, Bad, Refused, ReadFault, WriteFault, NoMemory, Usage}
@@ -40,6 +41,22 @@ IsGraphRefusal named name (refusal.Plan fault) = ⊥
 IsGraphRefusal named name (refusal.Report fault) = ⊥
 IsGraphRefusal named name (refusal.Shot fault) = ⊥
 IsGraphRefusal named name (refusal.Sample fault) = ⊥
+
+-- the text of the file of the name is no plan of the graph, and the refusal is its fault
+abbrev pub IsPlanRefusal : DecodingGraph → Named → List ℕ → Refusal → Type 0
+IsPlanRefusal g named name (refusal.Graph fault) = ⊥
+IsPlanRefusal g named name (refusal.Plan fault) = Holds named name (IsNoPlan g fault)
+IsPlanRefusal g named name (refusal.Report fault) = ⊥
+IsPlanRefusal g named name (refusal.Shot fault) = ⊥
+IsPlanRefusal g named name (refusal.Sample fault) = ⊥
+
+-- the text of the file of the name is no report, and the refusal is its fault
+abbrev pub IsReportRefusal : Named → List ℕ → Refusal → Type 0
+IsReportRefusal named name (refusal.Report fault) = Holds named name (IsNoReport fault)
+IsReportRefusal named name (refusal.Graph fault) = ⊥
+IsReportRefusal named name (refusal.Plan fault) = ⊥
+IsReportRefusal named name (refusal.Shot fault) = ⊥
+IsReportRefusal named name (refusal.Sample fault) = ⊥
 
 -- the input was read to its end
 abbrev pub IsReadToItsEnd : Cause → Type 0

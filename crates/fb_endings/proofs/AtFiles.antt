@@ -7,8 +7,8 @@ use Rattle.fb_inputs.specs.declared.fault.FileFault.{FileFault}
 use Rattle.fb_inputs.specs.declared.fault.FileFault.TheVariants as file_fault
 use Rattle.fb_endings.specs.declared.ending.Cause.TheVariants as cause
 use Rattle.fb_endings.specs.declared.ending.Refusal.{Refusal}
-use Rattle.fb_check.specs.Ends.{CountsReadFault, EndsAtFile, IsReadToItsEnd}
-use Rattle.fb_check.specs.InternalCauses.{cause_at_file}
+use Rattle.fb_endings.specs.Ends.{CountsReadFault, EndsAtFile, IsReadToItsEnd}
+use Rattle.fb_endings.specs.InternalCauses.{cause_at_file}
 
 module _ {E : Type 0} (refusal : E → Refusal) where
   -- by what the read of the file says, whose result is `r`

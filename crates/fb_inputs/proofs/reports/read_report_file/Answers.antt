@@ -1,10 +1,10 @@
 use Rattle.std.proofs.Common.{◌<◌, length}
 use Rattle.std.proofs.lemmas.Result.{err_from_is_err_and}
 use Rattle.fb_verify.specs.Reports.{most_bytes}
-use Rattle.fb_check.specs.CheckEndings.{IsNoReport}
-use Rattle.fb_check.proofs.Reported.{too_long}
+use Rattle.fb_inputs.specs.Judging.{IsNoReport}
+use Rattle.fb_inputs.proofs.Reported.{too_long}
 use Rattle.fb_inputs.proofs.Lists.{refused_as_too_long}
-use Rattle.fb_check.proofs.checking.read_report_file.Goals as goal
+use Rattle.fb_inputs.proofs.reports.read_report_file.Goals as goal
 
 pub returns-in_err-text-clause-refused : goal.returns-in_err-text-clause-refused
 returns-in_err-text-clause-refused g c =

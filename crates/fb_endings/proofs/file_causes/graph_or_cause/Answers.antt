@@ -2,8 +2,8 @@ use Rattle.std.proofs.Common.{refl}
 use Rattle.std.proofs.KnownBytes.{Appends-nil}
 use Rattle.fb_inputs.specs.Moments.{moment}
 use Rattle.fb_endings.specs.declared.ending.Refusal.TheVariants as refusal
-use Rattle.fb_check.proofs.AtFiles.{counted_at_file, ends_at_file, not_by_writing, not_to_the_end}
-use Rattle.fb_check.proofs.file_causes.graph_or_cause.Goals as goal
+use Rattle.fb_endings.proofs.AtFiles.{counted_at_file, ends_at_file, not_by_writing, not_to_the_end}
+use Rattle.fb_endings.proofs.file_causes.graph_or_cause.Goals as goal
 
 pub returns-in-Err-clause-ends : goal.returns-in-Err-clause-ends
 returns-in-Err-clause-ends g c written = rw c.cause_of_graph.ensures (ends_at_file refusal.Graph _ _

@@ -1,0 +1,2 @@
+pub mod AtFiles
+pub mod InText

@@ -1,0 +1,40 @@
+-- What a command line asks for, without the memory that its texts lie in.
+use Rattle.std.specs.Prelude.{option_map}
+use Rattle.fb_request.specs.Requests.{Checking, Decoding, Request, Sampling, check, decode, sample}
+use Rattle.fb_request.specs.declared.request.Checking.{Checking as BorrowedChecking}
+use Rattle.fb_request.specs.declared.request.Decoding.{Decoding as BorrowedDecoding}
+use Rattle.fb_request.specs.declared.request.Request.{Request as BorrowedRequest}
+use Rattle.fb_request.specs.declared.request.Request.TheVariants.{Check, Decode, Sample}
+use Rattle.fb_request.specs.declared.request.Sampling.{Sampling as ReadSampling}
+
+abbrev pub plain_decoding : BorrowedDecoding → Decoding
+plain_decoding d = record {
+  graph = d.graph.now;
+  plan = option_map (λ name. name.now) d.plan;
+  shots = d.shots.now;
+  format = d.format;
+  workers = d.workers;
+  window = d.window;
+  trace = d.trace;
+}
+
+abbrev pub plain_checking : BorrowedChecking → Checking
+plain_checking c =
+    record { graph = c.graph.now; shots = c.shots.now; format = c.format; report = c.report.now }
+
+abbrev pub plain_sampling : ReadSampling → Sampling
+plain_sampling s = record {
+  distance = s.distance;
+  rounds = s.rounds;
+  units = s.units;
+  rate = s.rate;
+  start = s.start;
+  shots = s.shots;
+  workers = s.workers;
+  window = s.window;
+}
+
+abbrev pub plain_request : BorrowedRequest → Request
+plain_request (Decode d) = decode (plain_decoding d)
+plain_request (Check c) = check (plain_checking c)
+plain_request (Sample s) = sample (plain_sampling s)

@@ -1,0 +1,14 @@
+//! The formats of shots.
+
+/// How shots are written: the first three are result formats of Stim.
+#[derive(Clone, Copy, Debug, PartialEq, Eq)]
+pub enum Format {
+    /// `01`: a line for each shot, a byte `0` or `1` for each detector.
+    Text01,
+    /// `b8`: a block of bytes for each shot, a bit for each detector.
+    B8,
+    /// `dets`: a line for each shot, a word for each detector that fired.
+    Dets,
+    /// `json`: a JSON value on a line for each shot, as Fusion Blossom writes a syndrome.
+    Json,
+}

@@ -1,0 +1,14 @@
+//! What a command line may ask of the program: a request for each command, and its limits.
+
+#![tactic(auto)]
+
+pub mod format;
+pub mod laws;
+pub mod limits;
+pub mod request;
+pub mod usage;
+
+pub use format::Format;
+pub use limits::{MOST_AT_ONCE, MOST_WORKERS};
+pub use request::{Checking, Decoding, Request, Sampling};
+pub use usage::UsageKind;
