@@ -18,7 +18,7 @@ use Rattle.fb_inputs.specs.InternalGathers.{EndsFrom, FirstFrom, Gathers, Gather
 use Rattle.fb_run.proofs.Batched.{counted_rows}
 use Rattle.fb_run.specs.Decoding.{HaveWholeWindows, all_rows, batches_text, cause_of, last_line, last_line_of}
 use Rattle.fb_run.specs.Endings.{decode_account, decode_source}
-use Rattle.fb_run.specs.Rows.{Counts, counts_of}
+use Rattle.fb_run.specs.Rows.{Counts}
 use Rattle.fb_run.specs.InternalWrites.{EndsReport, WritesBatches, WritesFirstBatches, counts_in}
 use Rattle.fb_request.specs.Requests.{Decoding}
 use Rattle.fb_endings.specs.declared.ending.Cause.{Cause}

@@ -5,14 +5,13 @@ use Rattle.std.proofs.lemmas.List.{map-append}
 use Rattle.std.proofs.lemmas.List.Sums.{sum_by-cons}
 use Rattle.fb_book.specs.declared.entries.Entry.{Entry}
 use Rattle.fb_endings.specs.TextEnds.{whole_text}
-use Rattle.fb_crew.specs.Windows.{is_best}
 use Rattle.fb_graph.specs.Limits.{DecodingGraph, ShotValue}
 use Rattle.fb_graph.specs.declared.parts.Row.{Row}
 use Rattle.fb_graph.specs.declared.parts.Row.TheVariants as row
 use Rattle.fb_plan.specs.Plans.{PlanTree}
 use Rattle.fb_report.specs.Texts.{done_text, head_text, row_text, rows_text}
 use Rattle.fb_run.proofs.Batched.{bare-batch}
-use Rattle.fb_run.specs.Decoding.{AnswersBatch, AreBatches, Batch, all_rows, batch_text, batches_text, event_line, events_text, last_line_of}
+use Rattle.fb_run.specs.Decoding.{AreBatches, Batch, all_rows, batch_text, batches_text, event_line, events_text, last_line_of}
 use Rattle.fb_run.specs.Endings.{decode_account}
 use Rattle.fb_run.specs.ReadBack.{ReadsBackReport, event_of, events_of, fusions_of, rows_with_last, traced_rows, units_of}
 use Rattle.fb_run.specs.Rows.{counts_of, is_odd}
