@@ -165,32 +165,32 @@ scanned_set p role_of nodes names old w new n i x l scanned most is =
       bounded = bounded_set (slack_at p nodes) w i x scanned.bounded most;
     })
 
--- the next edge gets its slack as its bound, and is passed over
-pub scanned_bounded : (p : Problem) (role_of : ℕ → Role) (nodes : List Node) (names : List ℕ) (old w new : Watched) (n k x : ℕ)
+-- the next edge gets its slack, or less, as its bound, and is passed over
+pub scanned_bounded : (p : Problem) (role_of : ℕ → Role) (nodes : List Node) (names : List ℕ) (old w new : Watched) (n k x y : ℕ)
     (l : Look) (fits : Bool) → IsSeen p role_of nodes old.edges → IsScanned p role_of nodes names old w n l → 0 < n
-    → k ≡ get_or w.edges (n - 1) 0 → x ≡ slack_at p nodes k → new ≡ record w { bounds = set w.bounds (n - 1) x }
+    → k ≡ get_or w.edges (n - 1) 0 → x ≡ slack_at p nodes k → y ≤ x → new ≡ record w { bounds = set w.bounds (n - 1) y }
     → fits ≡ fits_within l x → fits ≡ true → IsScanned p role_of nodes names old new (n - 1) l
-scanned_bounded p role_of nodes names old w new n k x l fits seen scanned some at slack is is_fit holds =
+scanned_bounded p role_of nodes names old w new n k x y l fits seen scanned some at slack low is is_fit holds =
     let here : k ≡ get_or old.edges (n - 1) 0 = at ∙ scanned.same (n - 1) (omega (arith, some)) in
-    let within : x ≤ slack_at p nodes (get_or w.edges (n - 1) 0) = omega (arith, slack, ap (slack_at p nodes) at) in
-    let set : IsScanned p role_of nodes names old new n l = scanned_set p role_of nodes names old w new n (n - 1) x l scanned within is in
+    let within : y ≤ slack_at p nodes (get_or w.edges (n - 1) 0) = omega (arith, low, slack, ap (slack_at p nodes) at) in
+    let set : IsScanned p role_of nodes names old new n l = scanned_set p role_of nodes names old w new n (n - 1) y l scanned within is in
     scanned_passed p role_of nodes names old new n x l fits seen set some
     (subst (λ m. x ≤ slack_at p nodes m) (sym (set.same (n - 1) (omega (arith, some))))
     (omega (arith, slack, ap (slack_at p nodes) here)))
     is_fit holds
 
--- the next edge gets its slack as its bound, and is looked at
-pub scanned_more : (p : Problem) (role_of : ℕ → Role) (nodes : List Node) (names : List ℕ) (old w new : Watched) (n k x : ℕ)
+-- the next edge gets its slack, or less, as its bound, and is looked at
+pub scanned_more : (p : Problem) (role_of : ℕ → Role) (nodes : List Node) (names : List ℕ) (old w new : Watched) (n k x y : ℕ)
     (a b l : Look) → IsSeen p role_of nodes old.edges → IsScanned p role_of nodes names old w n a → 0 < n
-    → k ≡ get_or w.edges (n - 1) 0 → x ≡ slack_at p nodes k → new ≡ record w { bounds = set w.bounds (n - 1) x }
+    → k ≡ get_or w.edges (n - 1) 0 → x ≡ slack_at p nodes k → y ≤ x → new ≡ record w { bounds = set w.bounds (n - 1) y }
     → b ≡ edge_look p role_of nodes k → l ≡ both_looks a b → IsScanned p role_of nodes names old new (n - 1) l
-scanned_more p role_of nodes names old w new n k x a b l seen before some is slack changed looked joined =
+scanned_more p role_of nodes names old w new n k x y a b l seen before some is slack low changed looked joined =
     let i : ℕ = n - 1 in
     let less : i < length old.edges = omega (arith, some, before.within.0) in
     let next : n ≡ i + 1 = omega (arith, some) in
     let here : k ≡ get_or old.edges i 0 = is ∙ before.same i (omega (arith, some)) in
-    let within : x ≤ slack_at p nodes (get_or w.edges i 0) = omega (arith, slack, ap (slack_at p nodes) is) in
-    let scanned : IsScanned p role_of nodes names old new n a = scanned_set p role_of nodes names old w new n i x a before within changed in
+    let within : y ≤ slack_at p nodes (get_or w.edges i 0) = omega (arith, low, slack, ap (slack_at p nodes) is) in
+    let scanned : IsScanned p role_of nodes names old new n a = scanned_set p role_of nodes names old w new n i y a before within changed in
     record {
       limits = subst (LimitsBoth p (roles_by role_of) nodes names (drop i old.edges)) (sym joined)
           (limits_before (λ j. All (BearsShrinking nodes j) names)

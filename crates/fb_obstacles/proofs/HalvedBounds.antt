@@ -30,10 +30,10 @@ half_or_less limit edge e x half whole = by (e == edge) (λ is. half (eqb-true e
     by true here = here refl
     by false here = whole
 
--- the bound of the edge is halved
+-- the bound of the edge is at most halved
 pub bounded_halved : (limit : ℕ → ℕ) (w : Watched) (edge place half : ℕ) → AreDistinct w.edges
     → length w.bounds ≡ length w.edges → place < length w.edges → get_or w.edges place 0 ≡ edge
-    → half ≡ get_or w.bounds place 0 / 2 → AreBounded limit w
+    → half ≤ get_or w.bounds place 0 / 2 → AreBounded limit w
     → AreBounded (halved_at limit edge) (record w { bounds = set w.bounds place half })
 bounded_halved limit w edge place half distinct even within at is bounds i less = step (cases_eq i place)
   where

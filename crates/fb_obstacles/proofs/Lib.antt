@@ -2,6 +2,8 @@ pub mod BoundedScans
 pub mod Conclusions
 pub mod EdgeLooks
 pub mod EdgeScans
+pub mod EnteredEdges
+pub mod FirstEntries
 pub mod HalvedBounds
 pub mod HeldEnds
 pub mod LeftEdges
@@ -10,6 +12,5 @@ pub mod LookPlaces
 pub mod NodeLooks
 pub mod RaisedBounds
 pub mod SingleEdges
-pub mod StoredEdges
 pub mod TopLayers
 pub mod WatchSteps

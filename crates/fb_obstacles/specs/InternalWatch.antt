@@ -1,13 +1,11 @@
--- How the watched edges are stored: their list, the place of each of them in it, and a bound for each.
-use Rattle.std.specs.Prelude.{ℕ, ◌≡◌, ◌<◌, ◌≤◌, ◌^◌, List, length, get_or, All}
+-- How the watched edges are stored: as the first keys of a map.
+use Rattle.std.specs.Prelude.{ℕ, ◌<◌, ◌≤◌, ◌+◌, ◌^◌, All}
+use Rattle.indexmap.specs.IndexMap.{IndexMap, keys, values, index_map_len, spare}
+use Rattle.fb_obstacles.specs.declared.edge_hasher.EdgeHasher.{EdgeHasher}
 
-pub record IsStored (places edges : List ℕ) (capacity : ℕ) : Type 0 where
-  pub placed : (i : ℕ) → i < length edges → get_or places (get_or edges i 0) 0 ≡ i
-  pub within : All (λ e. e < length places) edges
-  pub room : length places ≤ capacity
-  pub few : length places < 2 ^ 32
-
--- there is one bound for each edge, and room for one for each place
-pub record HaveBounds (places edges bounds : List ℕ) (capacity : ℕ) : Type 0 where
-  pub one_each : length bounds ≡ length edges
-  pub room : length places ≤ capacity
+-- the first `live` entries are watched, all keys are edges, all values are numbers of 64 bits, and there is room for every edge
+pub record IsKept (known : IndexMap ℕ ℕ EdgeHasher) (live edge_count : ℕ) : Type 0 where
+  pub within : live ≤ index_map_len known
+  pub below : All (λ e. e < edge_count) (keys known)
+  pub small : All (λ b. b < 2 ^ 64) (values known)
+  pub room : edge_count ≤ index_map_len known + spare known

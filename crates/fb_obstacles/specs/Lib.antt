@@ -1,3 +1,4 @@
+pub mod EdgeHashes
 pub mod InnerEdges
 pub mod InternalLooks
 pub mod InternalSingles

@@ -3,6 +3,7 @@
 #![tactic(auto)]
 
 mod bounding;
+pub mod edge_hasher;
 mod ends;
 pub mod entering;
 pub mod finding;

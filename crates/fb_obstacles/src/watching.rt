@@ -1,43 +1,50 @@
-ghost use Rattle.std.specs.Prelude.{ℕ, ◌≡◌, ◌+◌, ◌-◌, ◌/◌, ◌<◌, ◌≤◌, ◌==◌, ◌&&◌, ◌||◌, true, false, not, [], ◌∷◌, ◌++◌, length, map, get_or, set, All, IfOk, IfSome, MatchOption, if◌then◌else◌};
+ghost use Rattle.std.specs.Prelude.{ℕ, ◌≡◌, ◌+◌, ◌-◌, ◌/◌, ◌<◌, ◌≤◌, ◌==◌, ◌&&◌, ◌||◌, true, false, not, [], ◌∷◌, ◌++◌, length, map, get_or, set, nat_eq, nat_lt, None, swap, All, IfOk, IfSome, MatchOption, if◌then◌else◌};
+ghost use Rattle.std.specs.List.{position_or_len, swap_remove};
+ghost use Rattle.indexmap.specs.IndexMap.{get, keys, index_map_len, spare, set_value_at};
 ghost use Rattle.fb_graph.specs.Parity.{is_in};
 ghost use Rattle.fb_graph.specs.Counts.{as_count};
 ghost use Rattle.fb_graph.specs.Certificate.{AreDistinct};
 ghost use Rattle.fb_obstacles.specs.Watched.{AreBounded};
 
+use crate::edge_hasher::EdgeHasher;
 use fb_graph::{NoMemory, Scope};
+use indexmap::IndexMap;
 use std::alloc::Global;
 use std::marker::Model;
 
+/// The edges that were watched since the watch was emptied, with the bound of each.
+type Known = IndexMap<u32, u64, EdgeHasher>;
+
 /// The edges that a search looks at, each once, in any order, with a lower bound of each one's slack. Only `new` takes
-/// memory, and only `new` takes time for each edge of the scope: another call takes the time of a few reads and writes. So
-/// a watch is made once and serves many searches.
+/// memory, and only `new` takes time for each edge of the scope; `clear` takes time for each edge that was watched, another
+/// call that of a few reads and writes. So a watch is made once and serves many searches.
 #[derive(Drop)]
 pub struct Watch {
-    /// For each edge of the scope its place in the list of the watched ones. It counts only if that edge is there.
-    places: Vec<u32>,
-    /// The watched edges, with room for all edges of the scope.
-    edges: Vec<u32>,
-    /// For each watched edge, by its place in the list, its bound with `lowered` added. A bound of 0 may have less.
-    raised: Vec<u64>,
-    /// By how much all bounds were lowered, but for those that would be below 0.
+    /// The watched edges are the first ones, `live` of them; behind them are those that have left, which keep their entries
+    /// so that the room for every edge of the scope stays. The value of a watched edge is its bound with `lowered` added:
+    /// the growth, counted from when the watch was emptied, at which the edge may become tight at the earliest.
+    known: Known,
+    live: usize,
+    edge_count: u32,
+    /// By how much all bounds were lowered since the watch was emptied, at most the greatest number.
     lowered: u64,
     /// The place of the edge that last limited a step. Another edge may be there by now, or none.
     limiting: usize,
 }
 
 impl Model for Watch {
-    ghost use Rattle.std.specs.Prelude.{◌-◌, length, map, vec_capacity};
+    ghost use Rattle.std.specs.Prelude.{◌-◌, map, take};
+    ghost use Rattle.indexmap.specs.IndexMap.{keys, values};
     ghost use Rattle.fb_obstacles.specs.Watched.{Watched, watched_code};
-    ghost use Rattle.fb_obstacles.specs.InternalWatch.{IsStored, HaveBounds};
+    ghost use Rattle.fb_obstacles.specs.InternalWatch.{IsKept};
 
     ghost Value = { Watched };
 
     ghost coded = { watched_code };
 
-    ghost view = { λ w. record { edge_count = length w.places.items; edges = w.edges.items; bounds = map (λ b. b - w.lowered) w.raised.items } };
+    ghost view = { λ w. record { edge_count = w.edge_count; edges = take w.live (keys w.known); bounds = map (λ b. b - w.lowered) (take w.live (values w.known)) } };
 
-    ghost invariant = { λ w. IsStored w.places.items w.edges.items (vec_capacity w.edges)
-        × HaveBounds w.places.items w.edges.items w.raised.items (vec_capacity w.raised) };
+    ghost invariant = { λ w. IsKept w.known w.live w.edge_count };
 }
 
 impl Watch {
@@ -45,14 +52,14 @@ impl Watch {
     pub fn new<S: Scope>(alloc: Global, scope: &S) -> Result<Watch, NoMemory>
         ensures { IfOk result (λ w. w ≡ record { edge_count = length (S.problem scope.now).edges; edges = []; bounds = [] }) }
     {
-        let count = scope.edge_count() as usize;
-        let places = vec![in alloc; 0; count]?;
-        let edges = Vec::with_capacity(alloc, count)?;
-        let raised = Vec::with_capacity(alloc, count)?;
+        let edge_count = scope.edge_count();
+        // With a group of the table for each eight edges no group overflows.
+        let room = edge_count as usize + edge_count as usize / 8 + 1;
+        let known = IndexMap::with_capacity_and_hasher(alloc, room, EdgeHasher::new())?;
         Ok(Watch {
-            places,
-            edges,
-            raised,
+            known,
+            live: 0,
+            edge_count,
             lowered: 0,
             limiting: 0,
         })
@@ -64,12 +71,11 @@ impl Watch {
         ensures within { All (λ e. e < self.now.edge_count) self.now.edges }
         ensures bounds { length self.now.bounds ≡ length self.now.edges }
     {
-        let _edges = &self.edges;
+        let _len = self.known.len();
     }
 
     /// Whether the edge is watched.
     pub fn holds(&self, edge: u32) -> bool
-        requires { edge < self.now.edge_count }
         ensures { result ≡ is_in self.now.edges edge }
     {
         self.place_of(edge).is_some()
@@ -77,15 +83,12 @@ impl Watch {
 
     /// The place of a watched edge.
     fn place_of(&self, edge: u32) -> Option<usize>
-        requires { edge < self.now.edge_count }
         ensures { MatchOption result (is_in self.now.edges edge ≡ false)
             (λ i. (i < length self.now.edges) × (get_or self.now.edges i 0 ≡ edge) × (is_in self.now.edges edge ≡ true)) }
     {
-        let place = self.places[edge as usize] as usize;
-        if place < self.edges.len() && self.edges[place] == edge {
-            Some(place)
-        } else {
-            None
+        match self.known.get_index_of(&edge) {
+            Some(place) => { if place < self.live { Some(place) } else { None } }
+            None => None,
         }
     }
 
@@ -94,12 +97,12 @@ impl Watch {
         requires { edge < self.old.edge_count }
         ensures { self.new ≡ (if is_in self.old.edges edge then self.old else record { edge_count = self.old.edge_count; edges = self.old.edges ++ edge ∷ []; bounds = self.old.bounds ++ 0 ∷ [] }) }
     {
-        if self.holds(edge) {
-            return;
+        let _len = self.known.len();
+        let place = place_in(&mut self.known, edge);
+        if place >= self.live {
+            bring(&mut self.known, place, self.live, self.lowered);
+            self.live += 1;
         }
-        self.places[edge as usize] = self.edges.len() as u32;
-        self.edges.push_reserved(edge);
-        self.raised.push_reserved(self.lowered);
     }
 
     /// Watches the edge from now on. Its slack may be half of what it was.
@@ -122,7 +125,6 @@ impl Watch {
 
     /// Watches the edge no longer.
     pub fn leave(&mut self, edge: u32)
-        requires { edge < self.old.edge_count }
         ensures count { self.new.edge_count ≡ self.old.edge_count }
         ensures edges { (e : ℕ) → is_in self.new.edges e ≡ (is_in self.old.edges e && not (e == edge)) }
         ensures len { length self.new.edges + as_count (is_in self.old.edges edge) ≡ length self.old.edges }
@@ -142,20 +144,25 @@ impl Watch {
         ensures len { length self.new.edges + 1 ≡ length self.old.edges }
         ensures bounds { (limit : ℕ → ℕ) → AreBounded limit self.old → AreBounded limit self.new }
     {
-        self.edges.swap_remove(place);
-        self.raised.swap_remove(place);
-        if place < self.edges.len() {
-            let moved = self.edges[place];
-            self.places[moved as usize] = place as u32;
-        }
+        self.keeps();
+        self.take_out(place);
+    }
+
+    /// Moves the edge at this place behind the watched ones. The last one takes its place, and those before it keep theirs.
+    fn take_out(&mut self, place: usize)
+        requires { place < length self.old.edges }
+        ensures { self.new ≡ record { edge_count = self.old.edge_count; edges = swap_remove self.old.edges place 0; bounds = swap_remove self.old.bounds place 0 } }
+    {
+        self.live -= 1;
+        self.known.swap_indices(place, self.live);
     }
 
     /// Watches no edge any longer.
     pub fn clear(&mut self)
         ensures { self.new ≡ record { edge_count = self.old.edge_count; edges = []; bounds = [] } }
     {
-        self.edges.clear();
-        self.raised.clear();
+        self.known.truncate(0);
+        self.live = 0;
         self.lowered = 0;
     }
 
@@ -163,13 +170,7 @@ impl Watch {
     pub fn lower(&mut self, length: u64)
         ensures { self.new ≡ record self.old { bounds = map (λ b. b - length) self.old.bounds } }
     {
-        match self.lowered.checked_add(length) {
-            Some(lowered) => self.lowered = lowered,
-            None => {
-                lower_all(&mut self.raised, self.lowered);
-                self.lowered = length;
-            }
-        }
+        self.lowered = self.lowered.saturating_add(length);
     }
 
     /// The bound of the edge at this place.
@@ -177,22 +178,16 @@ impl Watch {
         requires { place < length self.now.edges }
         ensures { result ≡ get_or self.now.bounds place 0 }
     {
-        self.raised[place].saturating_sub(self.lowered)
+        self.known[place].saturating_sub(self.lowered)
     }
 
-    /// Sets the bound of the edge at this place.
+    /// Sets the bound of the edge at this place, or a lower one where their sum with `lowered` isn't a number of 64 bits.
     pub(crate) fn set_bound(&mut self, place: usize, bound: u64)
         requires { place < length self.old.edges }
-        ensures { self.new ≡ record self.old { bounds = set self.old.bounds place bound } }
+        ensures most { get_or self.new.bounds place 0 ≤ bound }
+        ensures rest { self.new ≡ record self.old { bounds = set self.old.bounds place (get_or self.new.bounds place 0) } }
     {
-        match bound.checked_add(self.lowered) {
-            Some(raised) => self.raised[place] = raised,
-            None => {
-                lower_all(&mut self.raised, self.lowered);
-                self.lowered = 0;
-                self.raised[place] = bound;
-            }
-        }
+        self.known[place] = bound.saturating_add(self.lowered);
     }
 
     /// A place from which up to the end no bound is below the limit.
@@ -201,8 +196,9 @@ impl Watch {
         ensures within { result ≤ end }
         ensures large { (i : ℕ) → result ≤ i → i < end → limit ≤ get_or self.now.bounds i 0 }
     {
+        let _len = self.known.len();
         match limit.checked_add(self.lowered) {
-            Some(raised) => large_from(&self.raised, end, raised),
+            Some(raised) => large_from(&self.known.values().as_slice()[..self.live], end, raised),
             None => end,
         }
     }
@@ -219,38 +215,60 @@ impl Watch {
     pub fn limiting(&self) -> Option<u32>
         ensures { IfSome result (λ e. is_in self.now.edges e ≡ true) }
     {
-        self.edges.get(self.limiting).copied()
+        self.edges().get(self.limiting).copied()
     }
 
     /// The number of watched edges.
     pub fn len(&self) -> usize
         ensures { result ≡ length self.now.edges }
     {
-        self.edges.len()
+        self.live
     }
 
     /// Whether no edge is watched.
     pub fn is_empty(&self) -> bool
         ensures { result ≡ (length self.now.edges == 0) }
     {
-        self.edges.is_empty()
+        self.live == 0
     }
 
     /// The watched edges.
     pub fn edges(&self) -> &[u32]
         ensures { result.now ≡ self.now.edges }
     {
-        self.edges.as_slice()
+        let _len = self.known.len();
+        &self.known.keys().as_slice()[..self.live]
     }
 }
 
-/// Takes the amount from each number. A number that is less becomes 0.
-fn lower_all(numbers: &mut [u64], amount: u64)
-    ensures { numbers.new ≡ map (λ n. n - amount) numbers.old }
+/// The place of the edge in the map, which gets an entry at its end for an edge that it doesn't have.
+fn place_in(known: &mut Known, edge: u32) -> usize
+    requires room { get nat_eq known.old edge ≡ None → 0 < spare known.old }
+    ensures index { result ≡ position_or_len (nat_eq edge) (keys known.old) }
+    ensures within { result < index_map_len known.new }
+    ensures found { get_or (keys known.new) result 0 ≡ edge }
+    ensures entries { known.new.entries ≡ (if nat_lt result (index_map_len known.old) then known.old.entries else known.old.entries ++ (edge, 0) ∷ []) }
+    ensures room { index_map_len known.old + spare known.old ≤ index_map_len known.new + spare known.new }
 {
-    for number in numbers.iter_mut() {
-        *number = number.saturating_sub(amount);
+    match known.get_index_of(&edge) {
+        Some(place) => place,
+        None => match known.insert_full(edge, 0) {
+            Ok((place, _)) => place,
+            Err(_) => unreachable!(),
+        },
     }
+}
+
+/// Gives the entry at the place the bound, and exchanges it with the one at the earlier place.
+fn bring(known: &mut Known, place: usize, first: usize, bound: u64)
+    requires order { first ≤ place }
+    requires within { place < index_map_len known.old }
+    ensures entries { known.new.entries ≡ swap (set_value_at known.old.entries place bound) place first }
+    ensures len { index_map_len known.new ≡ index_map_len known.old }
+    ensures spare { spare known.old ≤ spare known.new }
+{
+    known[place] = bound;
+    known.swap_indices(place, first);
 }
 
 /// The first place from which up to the end no number is below the limit.

@@ -96,7 +96,7 @@ loop-place-preserved-then-fits_within-2 g c =
     ends residue c.slack-slack.ensures in
     record {
       scanned = scanned_bounded (g.S.Scope.problem c.args.scope.now) (g.R.Roles.role_of c.args.roles.now) c.args.regions.now.nodes (g.R.MinusNodes.minus_names c.args.roles.now) c.args.watch.now c.loop-place.watch c.set_bound.new.self
-          c.loop-place.place k c.slack-slack.result c.loop-place.least c.fits_within-in-loop-place.result
+          c.loop-place.place k c.slack-slack.result (get_or c.set_bound.new.self.bounds (c.loop-place.place - 1) 0) c.loop-place.least c.fits_within-in-loop-place.result
           (record {
             dual = subst (λ s. IsDual (g.S.Scope.problem s) c.args.regions.now.nodes) c.requires.same c.keeps_dual.ensures;
             roles = c.requires.roles;
@@ -106,8 +106,7 @@ loop-place-preserved-then-fits_within-2 g c =
           })
           c.loop-place.invariant.scanned c.loop-place-test.true
           (ap (λ xs. get_or xs (c.loop-place.place - 1) 0) c.edges.ensures)
-          slack
-          c.set_bound.ensures
+          slack c.set_bound.ensures.most c.set_bound.ensures.rest
           c.fits_within-in-loop-place.ensures c.if-fits_within-2.true;
       never_falls = omega (arith, c.loop-place.invariant.never_falls);
       counted = omega (arith, c.loop-place.invariant.counted);
@@ -129,7 +128,7 @@ loop-place-preserved g c =
     c.of-ends.result c.look_with-look.result ends residue c.look_with-look.ensures in
     record {
       scanned = scanned_more (g.S.Scope.problem c.args.scope.now) (g.R.Roles.role_of c.args.roles.now) c.args.regions.now.nodes (g.R.MinusNodes.minus_names c.args.roles.now) c.args.watch.now c.loop-place.watch c.with_look-least.new.watch
-          c.loop-place.place k c.slack-slack.result c.loop-place.least c.look_with-look.result c.with_look-least.result
+          c.loop-place.place k c.slack-slack.result (get_or c.set_bound.new.self.bounds (c.loop-place.place - 1) 0) c.loop-place.least c.look_with-look.result c.with_look-least.result
           (record {
             dual = subst (λ s. IsDual (g.S.Scope.problem s) c.args.regions.now.nodes) c.requires.same c.keeps_dual.ensures;
             roles = c.requires.roles;
@@ -139,8 +138,7 @@ loop-place-preserved g c =
           })
           c.loop-place.invariant.scanned c.loop-place-test.true
           (ap (λ xs. get_or xs (c.loop-place.place - 1) 0) c.edges.ensures)
-          slack
-          (c.with_look-least.ensures.same ∙ c.set_bound.ensures)
+          slack c.set_bound.ensures.most (c.with_look-least.ensures.same ∙ c.set_bound.ensures.rest)
           looked c.with_look-least.ensures.both;
       never_falls = omega (arith, c.loop-place.invariant.never_falls);
       counted = omega (arith, c.loop-place.invariant.counted);
@@ -162,7 +160,7 @@ returns-in-Blocked-least g c =
     c.of-ends.result c.look_with-look.result ends residue c.look_with-look.ensures in
     let scanned : IsScanned (g.S.Scope.problem c.args.scope.now) (g.R.Roles.role_of c.args.roles.now) c.args.regions.now.nodes (g.R.MinusNodes.minus_names c.args.roles.now) c.args.watch.now c.with_look-least.new.watch (c.loop-place.place - 1) c.with_look-least.result =
     scanned_more (g.S.Scope.problem c.args.scope.now) (g.R.Roles.role_of c.args.roles.now) c.args.regions.now.nodes (g.R.MinusNodes.minus_names c.args.roles.now) c.args.watch.now c.loop-place.watch c.with_look-least.new.watch
-    c.loop-place.place k c.slack-slack.result c.loop-place.least c.look_with-look.result c.with_look-least.result
+    c.loop-place.place k c.slack-slack.result (get_or c.set_bound.new.self.bounds (c.loop-place.place - 1) 0) c.loop-place.least c.look_with-look.result c.with_look-least.result
     (record {
       dual = subst (λ s. IsDual (g.S.Scope.problem s) c.args.regions.now.nodes) c.requires.same c.keeps_dual.ensures;
       roles = c.requires.roles;
@@ -172,8 +170,7 @@ returns-in-Blocked-least g c =
     })
     c.loop-place.invariant.scanned c.loop-place-test.true
     (ap (λ xs. get_or xs (c.loop-place.place - 1) 0) c.edges.ensures)
-    slack
-    (c.with_look-least.ensures.same ∙ c.set_bound.ensures)
+    slack c.set_bound.ensures.most (c.with_look-least.ensures.same ∙ c.set_bound.ensures.rest)
     looked c.with_look-least.ensures.both in
     record {
       limits = scanned_blocked (g.S.Scope.problem c.args.scope.now) (g.R.Roles.role_of c.args.roles.now) c.args.regions.now.nodes (g.R.MinusNodes.minus_names c.args.roles.now) c.args.watch.now c.with_look-least.new.watch (c.loop-place.place - 1)

@@ -1,13 +1,14 @@
-use Rattle.std.proofs.Common.{◌≡◌, ◌∙◌, ◌++◌, ◌∷◌, [], ◌/◌, cond, ap}
+use Rattle.std.proofs.Common.{◌≡◌, ◌∙◌, ◌++◌, ◌∷◌, [], ◌/◌, cond, get_or, ap, arith}
 use Rattle.fb_obstacles.proofs.HalvedBounds.{bounded_begun, bounded_halved}
 use Rattle.fb_obstacles.proofs.watching.Watch.enter_halved.Goals as goal
 
 pub returns-in-Some-clause-bounds : goal.returns-in-Some-clause-bounds
 returns-in-Some-clause-bounds c =
-    rw c.set_bound.ensures
+    rw c.set_bound.ensures.rest
     (λ limit bounded.
-    bounded_halved limit c.args.self.now c.args.edge c.in-Some.place _ c.keeps.ensures.distinct c.keeps.ensures.bounds
-    c.in-Some.ensures.0 c.in-Some.ensures.1 (ap (λ b. b / 2) c.bound_at-half.ensures) bounded)
+    bounded_halved limit c.args.self.now c.args.edge c.in-Some.place (get_or c.set_bound.new.self.bounds c.in-Some.place 0)
+    c.keeps.ensures.distinct c.keeps.ensures.bounds c.in-Some.ensures.0 c.in-Some.ensures.1
+    (omega (arith, c.set_bound.ensures.most, ap (λ b. b / 2) c.bound_at-half.ensures)) bounded)
 
 pub returns-in-None-clause-bounds : goal.returns-in-None-clause-bounds
 returns-in-None-clause-bounds c =

@@ -1,4 +1,5 @@
-use Rattle.std.proofs.Common.{◌-◌, ◌≤◌, get_or, map, ap, arith}
+use Rattle.std.proofs.Common.{◌∙◌, ◌-◌, ◌≤◌, get_or, map, take, ap, arith}
+use Rattle.indexmap.specs.IndexMap.{values}
 use Rattle.fb_obstacles.proofs.RaisedBounds.{lowered_at}
 use Rattle.fb_obstacles.proofs.watching.Watch.large_from.Goals as goal
 
@@ -6,11 +7,11 @@ pub returns-in-Some-clause-large : goal.returns-in-Some-clause-large
 returns-in-Some-clause-large c =
     rw (← c.self.view_is)
     (λ i from before.
-    let large : c.args.limit ≤ get_or (map (λ b. b - c.self.inside.lowered) c.self.inside.raised.items) i 0 = omega (
+    let large : c.args.limit ≤ get_or (map (λ b. b - c.self.inside.lowered) (take c.self.inside.live (values c.self.inside.known))) i 0 = omega (
       arith,
-      lowered_at c.self.inside.raised.items c.self.inside.lowered i,
+      lowered_at (take c.self.inside.live (values c.self.inside.known)) c.self.inside.lowered i,
       c.large_from.ensures.large i from before,
-      ap (λ xs. get_or xs i 0) c.deref.ensures.value,
+      ap (λ xs. get_or (take c.self.inside.live xs) i 0) (c.as_slice.ensures ∙ c.values.ensures.rest),
       c.in-Some.ensures,
     ) in
     large)

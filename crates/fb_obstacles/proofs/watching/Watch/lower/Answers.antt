@@ -1,18 +1,16 @@
-use Rattle.std.proofs.Common.{ℕ, ◌-◌, List, length, map, ap, sym, arith}
+use Rattle.std.proofs.Common.{ℕ, ◌<◌, List, take, ap}
+use Rattle.std.proofs.lemmas.List.Elements.{All-take}
+use Rattle.indexmap.specs.IndexMap.{keys, values}
 use Rattle.fb_obstacles.specs.Watched.{Watched}
-use Rattle.fb_obstacles.proofs.RaisedBounds.{lowered_items, lowered_twice}
+use Rattle.fb_obstacles.proofs.RaisedBounds.{lowered_twice}
 use Rattle.fb_obstacles.proofs.watching.Watch.lower.Goals as goal
 
-pub returns-in-Some : goal.returns-in-Some
-returns-in-Some c =
-    let watched : List ℕ → Watched = λ bs. record { edge_count = length c.self.inside.places.items; edges = c.self.inside.edges.items; bounds = bs } in
+pub returns : goal.returns
+returns c =
+    let watched : List ℕ → Watched = λ bs. record { edge_count = c.self.inside.edge_count; edges = take c.self.inside.live (keys c.self.inside.known); bounds = bs } in
     rw (← c.self.view_is)
-    (ap watched (lowered_twice c.self.inside.raised.items c.self.inside.lowered c.args.length c.in-Some.lowered (omega (arith, c.in-Some.ensures))))
-
-pub returns-in-None : goal.returns-in-None
-returns-in-None c =
-    let watched : List ℕ → Watched = λ bs. record { edge_count = length c.self.inside.places.items; edges = c.self.inside.edges.items; bounds = bs } in
-    rw (← c.self.view_is)
-    (ap (λ xs. watched (map (λ b. b - c.args.length) xs))
-    (lowered_items c.self.inside.raised c.lower_all.new.numbers _ c.self.inside.lowered c.lower_all.ensures
-    c.deref_mut.ensures.value (sym c.self.inside.raised.ok.0)))
+    (ap watched
+    (lowered_twice (take c.self.inside.live (values c.self.inside.known)) c.self.inside.lowered c.args.length
+    c.saturating_add-self-inside.result 18446744073709551616
+    (All-take (λ b. b < 18446744073709551616) c.self.inside.live (values c.self.inside.known) c.self.invariant.small)
+    c.saturating_add-self-inside.ensures))

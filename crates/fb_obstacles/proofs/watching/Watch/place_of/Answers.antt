@@ -1,21 +1,41 @@
-use Rattle.std.proofs.Common.{◌∙◌, ◌<◌, length, vec_capacity, arith}
-use Rattle.std.proofs.lemmas.Grind.{get_or_default_zero}
-use Rattle.fb_obstacles.proofs.StoredEdges.{absent_elsewhere}
+use Rattle.std.proofs.Common.{◌≡◌, ◌∙◌, ◌≤◌, length, ap, sym, false, true, arith}
+use Rattle.std.specs.Prelude.{nat_eq, nat_lt}
+use Rattle.std.specs.List.{position_or_len}
+use Rattle.std.proofs.lemmas.Bool.Decides.{nat_tests}
+use Rattle.std.proofs.lemmas.List.{get_or-take, length-take-le}
+use Rattle.indexmap.specs.IndexMap.{keys}
+use Rattle.fb_obstacles.proofs.FirstEntries.{among_first, found_at, found_nowhere, length-keys}
 use Rattle.fb_obstacles.proofs.watching.Watch.place_of.Goals as goal
-use Rattle.fb_obstacles.proofs.watching.Watch.place_of.Goals.{else-place-len-via-then-place-len+else-index-edge, else-place-len-via-else-place-len}
 
-pub returns-else-place-len : goal.returns-else-place-len
-returns-else-place-len c =
-    let below : c.args.edge < length c.self.inside.places.items = rw (← c.self.view_is) at c.requires in
+pub returns-then-place-self : goal.returns-then-place-self
+returns-then-place-self c =
+    let found = found_at (keys c.self.inside.known) c.args.edge c.in-Some.place c.in-Some.ensures.index in
+    let most : c.self.inside.live ≤ length (keys c.self.inside.known) =
+    omega (arith, c.self.invariant.within, length-keys c.self.inside.known.entries) in
+    let count = length-take-le c.self.inside.live (keys c.self.inside.known) most in
+    let first : nat_lt (position_or_len (nat_eq c.args.edge) (keys c.self.inside.known)) c.self.inside.live ≡ true =
+    ap (λ i. nat_lt i c.self.inside.live) (sym found.0) ∙ grind (arith, nat_tests) in
     rw (← c.self.view_is)
-    (absent_elsewhere c.self.inside.places.items c.self.inside.edges.items (vec_capacity c.self.inside.edges) c.args.edge
-    c.index.result.now c.self.invariant.0
-    (c.index.ensures ∙ get_or_default_zero c.self.inside.places.items c.args.edge c.index.result.now below)
-    (λ less here.
-    elim c.else-place-len.branch [
-      | else-place-len-via-then-place-len+else-index-edge w ↦
-          w.if-index-edge.false
-          (w.index-then-place-len.ensures
-          ∙ (get_or_default_zero c.self.inside.edges.items c.index.result.now w.index-then-place-len.result.now less ∙ here))
-      | else-place-len-via-else-place-len w ↦ absurd (omega arith)
-    ]))
+    ((
+      omega (arith, count, c.if-place-self.true),
+      get_or-take c.self.inside.live (keys c.self.inside.known) c.in-Some.place 0 (omega (arith, c.if-place-self.true)) ∙ found.2,
+      among_first (keys c.self.inside.known) c.args.edge c.self.inside.live most ∙ first,
+    ))
+
+pub returns-else-place-self : goal.returns-else-place-self
+returns-else-place-self c =
+    let found = found_at (keys c.self.inside.known) c.args.edge c.in-Some.place c.in-Some.ensures.index in
+    let most : c.self.inside.live ≤ length (keys c.self.inside.known) =
+    omega (arith, c.self.invariant.within, length-keys c.self.inside.known.entries) in
+    let past : nat_lt (position_or_len (nat_eq c.args.edge) (keys c.self.inside.known)) c.self.inside.live ≡ false =
+    ap (λ i. nat_lt i c.self.inside.live) (sym found.0) ∙ grind (arith, nat_tests) in
+    rw (← c.self.view_is) (among_first (keys c.self.inside.known) c.args.edge c.self.inside.live most ∙ past)
+
+pub returns-in-None : goal.returns-in-None
+returns-in-None c =
+    let past = found_nowhere (keys c.self.inside.known) c.args.edge c.in-None.ensures.index in
+    let most : c.self.inside.live ≤ length (keys c.self.inside.known) =
+    omega (arith, c.self.invariant.within, length-keys c.self.inside.known.entries) in
+    let none : nat_lt (position_or_len (nat_eq c.args.edge) (keys c.self.inside.known)) c.self.inside.live ≡ false =
+    grind (arith, nat_tests) in
+    rw (← c.self.view_is) (among_first (keys c.self.inside.known) c.args.edge c.self.inside.live most ∙ none)

@@ -1,18 +1,90 @@
-use Rattle.std.proofs.Common.{ℕ, List, length, ap, sym, arith}
-use Rattle.fb_obstacles.specs.Watched.{Watched}
-use Rattle.fb_obstacles.proofs.RaisedBounds.{lowered_items, lowered_set, lowered_set_anew}
+use Rattle.std.proofs.Common.{ℕ, List, All, ◌≡◌, ◌∙◌, ◌<◌, ◌≤◌, ◌+◌, ◌-◌, length, map, take, set, get_or, ap, sym, subst, arith}
+use Rattle.std.proofs.Math.Nat.{min-le_left}
+use Rattle.std.proofs.lemmas.List.{get_or-set_same, length-map, length-take-le}
+use Rattle.std.proofs.lemmas.List.Elements.{All-set}
+use Rattle.indexmap.specs.IndexMap.{IndexMap, keys, values, with_value_at}
+use Rattle.indexmap.proofs.CallerLemmas.{index_map_len-with_value_at, keys-with_value_at}
+use Rattle.fb_obstacles.specs.declared.edge_hasher.EdgeHasher.{EdgeHasher}
+use Rattle.fb_obstacles.proofs.EnteredEdges.{values_set_value_at}
+use Rattle.fb_obstacles.proofs.FirstEntries.{length-keys, length-values}
+use Rattle.fb_obstacles.proofs.RaisedBounds.{lowered_set}
 use Rattle.fb_obstacles.proofs.watching.Watch.set_bound.Goals as goal
 
-pub returns-in-Some : goal.returns-in-Some
-returns-in-Some c =
-    let watched : List ℕ → Watched = λ bs. record { edge_count = length c.self.inside.places.items; edges = c.self.inside.edges.items; bounds = bs } in
-    rw (← c.self.view_is)
-    (ap watched (lowered_set c.self.inside.raised.items c.self.inside.lowered c.args.place c.args.bound c.in-Some.raised (omega (arith, c.in-Some.ensures))))
+pub index_mut-requires : goal.index_mut-requires
+index_mut-requires c =
+    let inside : c.args.place < length (take c.self.inside.live (keys c.self.inside.known)) = rw (← c.self.view_is) at c.requires in
+    omega (
+      arith,
+      inside,
+      c.self.invariant.within,
+      length-take-le c.self.inside.live (keys c.self.inside.known)
+          (omega (arith, c.self.invariant.within, length-keys c.self.inside.known.entries)),
+    )
 
-pub returns-in-None : goal.returns-in-None
-returns-in-None c =
-    let watched : List ℕ → Watched = λ bs. record { edge_count = length c.self.inside.places.items; edges = c.self.inside.edges.items; bounds = bs } in
+module _ (known : IndexMap ℕ ℕ EdgeHasher) (live lowered place raised : ℕ) (most : live ≤ length (values known)) (less : place < live) where
+  abbrev kept : List ℕ
+  kept = map (λ b. b - lowered) (take live (values known))
+
+  bounds_set : map (λ b. b - lowered) (take live (values (with_value_at known place raised))) ≡ set kept place (raised - lowered)
+  bounds_set =
+      ap (λ vs. map (λ b. b - lowered) (take live vs)) (values_set_value_at known.entries place raised)
+      ∙ lowered_set (values known) live lowered place raised less
+
+  bound_at : get_or (map (λ b. b - lowered) (take live (values (with_value_at known place raised)))) place 0 ≡ raised - lowered
+  bound_at =
+      ap (λ xs. get_or xs place 0) bounds_set
+      ∙ get_or-set_same kept place (raised - lowered) 0
+      (omega (arith, less, length-map (take live (values known)) (λ b. b - lowered), length-take-le live (values known) most))
+
+  bounds_set_at : map (λ b. b - lowered) (take live (values (with_value_at known place raised)))
+      ≡ set kept place (get_or (map (λ b. b - lowered) (take live (values (with_value_at known place raised)))) place 0)
+  bounds_set_at = bounds_set ∙ ap (set kept place) (sym bound_at)
+
+pub returns-clause-most : goal.returns-clause-most
+returns-clause-most c =
+    let most : c.self.inside.live ≤ length (values c.self.inside.known) =
+    omega (arith, c.self.invariant.within, length-values c.self.inside.known.entries) in
+    let inside : c.args.place < length (take c.self.inside.live (keys c.self.inside.known)) = rw (← c.self.view_is) at c.requires in
+    let less : c.args.place < c.self.inside.live = omega (
+      arith,
+      inside,
+      length-take-le c.self.inside.live (keys c.self.inside.known)
+          (omega (arith, c.self.invariant.within, length-keys c.self.inside.known.entries)),
+    ) in
+    omega (
+      arith,
+      bound_at c.self.inside.known c.self.inside.live c.self.inside.lowered c.args.place c.saturating_add.result most less,
+      c.saturating_add.ensures,
+      min-le_left (c.args.bound + c.self.inside.lowered) 18446744073709551615,
+    )
+
+pub returns-clause-rest : goal.returns-clause-rest
+returns-clause-rest c =
+    let most : c.self.inside.live ≤ length (values c.self.inside.known) =
+    omega (arith, c.self.invariant.within, length-values c.self.inside.known.entries) in
+    let inside : c.args.place < length (take c.self.inside.live (keys c.self.inside.known)) = rw (← c.self.view_is) at c.requires in
+    let less : c.args.place < c.self.inside.live = omega (
+      arith,
+      inside,
+      length-take-le c.self.inside.live (keys c.self.inside.known)
+          (omega (arith, c.self.invariant.within, length-keys c.self.inside.known.entries)),
+    ) in
     rw (← c.self.view_is)
-    (ap watched (lowered_set_anew c.self.inside.raised.items _ c.self.inside.lowered c.args.place c.args.bound
-    (lowered_items c.self.inside.raised c.lower_all.new.numbers _ c.self.inside.lowered c.lower_all.ensures
-    c.deref_mut.ensures.value (sym c.self.inside.raised.ok.0))))
+    (λ j. record {
+      edge_count = c.self.inside.edge_count;
+      edges = take c.self.inside.live (keys-with_value_at c.self.inside.known c.args.place c.saturating_add.result j);
+      bounds = bounds_set_at c.self.inside.known c.self.inside.live c.self.inside.lowered c.args.place
+          c.saturating_add.result most less j;
+    })
+
+pub invariant_of-self : goal.invariant_of-self
+invariant_of-self c = record {
+  within = omega (arith, c.self.invariant.within, index_map_len-with_value_at c.self.inside.known c.args.place c.saturating_add.result);
+  below = subst (λ ks. All (λ e. e < c.self.inside.edge_count) ks)
+      (sym (keys-with_value_at c.self.inside.known c.args.place c.saturating_add.result)) c.self.invariant.below;
+  small = subst (λ vs. All (λ b. b < 18446744073709551616) vs)
+      (sym (values_set_value_at c.self.inside.known.entries c.args.place c.saturating_add.result))
+      (All-set (λ b. b < 18446744073709551616) (values c.self.inside.known) c.args.place c.saturating_add.result
+      (omega (arith, c.saturating_add.ensures)) c.self.invariant.small);
+  room = omega (arith, c.self.invariant.room, index_map_len-with_value_at c.self.inside.known c.args.place c.saturating_add.result);
+}
