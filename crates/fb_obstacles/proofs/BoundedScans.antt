@@ -1,27 +1,34 @@
 -- Edges that are passed over since their bounds show that they bear a step, and looks that set bounds.
-use Rattle.std.proofs.Common.{ℕ, zero, suc, ◌≡◌, ◌+◌, ◌-◌, ◌*◌, ◌/◌, ◌≤◌, ◌<◌, ◌==◌, ◌&&◌, ◌⊎◌, inl, inr, Bool, true, false, not, cond, is_some, Option, Some, None, List, [], length, get_or, set, drop, All, refl, sym, ap, ◌∙◌, subst, arith}
-use Rattle.std.proofs.lemmas.Bool.{and_from, and_parts, false≢true, false_from_ne_true, cases_eq, cases_lt, eqb-true, leb-true, not_from_false}
-use Rattle.std.proofs.lemmas.List.{drop_all, get_or-set_same, get_or-set_other, set_past}
-use Rattle.std.proofs.lemmas.List.Elements.{All-nil}
+use Rattle.std.proofs.Common.{ℕ, ◌≡◌, ◌-◌, ◌*◌, ◌/◌, ◌≤◌, ◌<◌, ◌==◌, ◌&&◌, ◌⊎◌, inl, inr, Bool, true, false, not, cond, is_some, Option, Some, None, List, length, get_or, set, take, take_all, All, refl, sym, ap, ◌∙◌, subst, true≢false, arith}
+use Rattle.std.specs.List.{swap_remove}
+use Rattle.std.proofs.Math.Bool.{and-false, and-true}
+use Rattle.std.proofs.lemmas.Bool.{and_from, and_parts, eq-eqb, false≢true, false_from_ne_true, cases_eq, cases_lt, eqb-true, leb-true, not_from_false}
+use Rattle.std.proofs.lemmas.Grind.{get_or_default_zero}
+use Rattle.std.proofs.lemmas.List.{get_or-set_same, get_or-set_other, get_or-take, length-take-le, set_past, take-set-le, take-take}
+use Rattle.std.proofs.lemmas.List.Elements.{All-from_get_or}
 use Rattle.fb_graph.specs.Parity.{is_in}
 use Rattle.fb_graph.specs.Problem.{Problem, edge_at, no_edge}
-use Rattle.fb_graph.specs.Certificate.{load_of}
+use Rattle.fb_graph.specs.Certificate.{AreDistinct, load_of}
 use Rattle.fb_graph.specs.Dual.{Node, IsDual, AreUnderOne, all_cuts, cover_of}
 use Rattle.fb_graph.specs.Steps.{Roles}
 use Rattle.fb_graph.specs.Covers.{AreRoles, is_covered_by, passes}
 use Rattle.fb_graph.specs.declared.parts.Edge.{Edge}
 use Rattle.fb_graph.proofs.Crossings.{under_or_not}
+use Rattle.fb_graph.proofs.Sets.{All-from_is_in, is_in-All, is_in_at}
 use Rattle.fb_laws.proofs.StepBounds.{edge_allows, edge_within_allows}
 use Rattle.fb_regions.specs.declared.roles.Role.{Role}
+use Rattle.fb_regions.proofs.Stored.{is_in_taken, length-swapped}
 use Rattle.fb_obstacles.specs.declared.obstacle.Obstacle.{Obstacle}
 use Rattle.fb_obstacles.specs.declared.looking.Look.{Look}
 use Rattle.fb_obstacles.specs.declared.looking.Look.TheVariants.{Clear, Within, Blocked}
 use Rattle.fb_obstacles.specs.Obstacles.{BearsStep, Obstructs, residue_at, roles_by, slack_at}
 use Rattle.fb_obstacles.specs.Watched.{Watched, AreBounded}
 use Rattle.fb_obstacles.specs.InnerEdges.{LeavesInner}
-use Rattle.fb_obstacles.specs.InternalLooks.{BearsShrinking, LimitsBoth, Limits, both_looks, edge_look, fits_within}
-use Rattle.fb_obstacles.proofs.EdgeScans.{IsSeen, edge_seen}
-use Rattle.fb_obstacles.proofs.LookLimits.{limits_before, limits_blocked, limits_passed, limits_same, limits_unlimited}
+use Rattle.fb_obstacles.specs.InternalWatch.{IsNext, Reorders}
+use Rattle.fb_obstacles.specs.InternalLooks.{BearBeside, BearsShrinking, LimitsBoth, Limits, both_looks, edge_look, fits_within}
+use Rattle.fb_obstacles.proofs.EdgeScans.{IsSeen, edge_looked}
+use Rattle.fb_obstacles.proofs.LookLimits.{limits_blocked, limits_next, limits_passed, limits_same, limits_unlimited}
+use Rattle.fb_obstacles.proofs.RaisedBounds.{bounded_taken, taken_default}
 
 -- the name that passes the test is there
 passing_some : (test : ℕ → Bool) (name : Option ℕ) → passes test name ≡ true → is_some name ≡ true
@@ -72,70 +79,31 @@ fitting_bound (Within m) slack fits =
     let half : m ≤ slack / 2 = leb-true m (slack / 2) fits in (m, refl, omega (arith, half))
 fitting_bound (Blocked o) slack fits = absurd (false≢true fits)
 
--- what a scan from the last edge to the first knows when it has come to a place: what the minus nodes and the edges from
--- there on allow, and that the edges before the place stand where they stood
+clear_not : (m : ℕ) → Clear ≡ Within m → ⊥
+clear_not m e = cc
+
+abbrev bound_of : Look → ℕ
+bound_of Clear = 0
+bound_of (Within m) = m
+bound_of (Blocked o) = 0
+
+-- what stands before a place stays when the edge there is taken out
+taken_before : (xs : List ℕ) (i : ℕ) → i < length xs → take i (swap_remove xs i 0) ≡ take i xs
+taken_before xs i within =
+    let last = get_or xs (length xs - 1) 0 in
+    take-take i (length xs - 1) (set xs i last) (omega (arith, within)) ∙ take-set-le i xs i last (omega arith)
+
+-- what a scan knows when it has come to a place: what the minus nodes allow, and the edges but for those before the place,
+-- behind which none waits in the queue
 pub record IsScanned (p : Problem) (role_of : ℕ → Role) (nodes : List Node) (names : List ℕ) (old new : Watched)
     (place : ℕ) (l : Look) : Type 0 where
-  pub limits : LimitsBoth p (roles_by role_of) nodes names (drop place old.edges) l
-  pub within : (place ≤ length old.edges) × (place ≤ length new.edges)
-  pub same : (i : ℕ) → i < place → get_or new.edges i 0 ≡ get_or old.edges i 0
+  pub limits : Limits
+      (λ j. All (BearsShrinking nodes j) names × BearBeside p (roles_by role_of) nodes (take place new.edges) old.edges j)
+      (Obstructs p (roles_by role_of) nodes) l
+  pub queued : new.queued ≤ place
+  pub within : place ≤ length new.edges
   pub watched : LeavesInner p nodes old new
   pub bounded : AreBounded (slack_at p nodes) new
-
--- the minus nodes were looked at, and no edge yet
-pub scanned_none : (p : Problem) (role_of : ℕ → Role) (nodes : List Node) (names : List ℕ) (w : Watched) (n : ℕ) (l : Look)
-    → n ≡ length w.edges → AreBounded (slack_at p nodes) w
-    → Limits (λ j. All (BearsShrinking nodes j) names) (Obstructs p (roles_by role_of) nodes) l
-    → IsScanned p role_of nodes names w w n l
-scanned_none p role_of nodes names w n l all bounded limits = record {
-  limits = subst (λ xs. LimitsBoth p (roles_by role_of) nodes names xs l) (sym (drop_all n w.edges (omega (arith, all))))
-      (limits_same (λ j. All (BearsShrinking nodes j) names)
-      (λ j. All (BearsShrinking nodes j) names × All (λ k. BearsStep (roles_by role_of) nodes j (edge_at p.edges k)) [])
-      (Obstructs p (roles_by role_of) nodes) l
-      (λ j h. (h, All-nil (λ k. BearsStep (roles_by role_of) nodes j (edge_at p.edges k)))) (λ j h. h.0) limits);
-  within = (omega (arith, all), omega (arith, all));
-  same = λ i less. refl;
-  watched = record { room = refl; kept = λ k watched apart. watched; none_new = λ k watched. watched };
-  bounded = bounded;
-}
-
--- the next edge is passed over
-pub scanned_passed : (p : Problem) (role_of : ℕ → Role) (nodes : List Node) (names : List ℕ) (old new : Watched) (n bound : ℕ)
-    (l : Look) (fits : Bool) → IsSeen p role_of nodes old.edges → IsScanned p role_of nodes names old new n l → 0 < n
-    → bound ≤ slack_at p nodes (get_or new.edges (n - 1) 0) → fits ≡ fits_within l bound → fits ≡ true
-    → IsScanned p role_of nodes names old new (n - 1) l
-scanned_passed p role_of nodes names old new n bound l fits seen scanned some bounded is_fit holds =
-    let i : ℕ = n - 1 in
-    let less : i < length old.edges = omega (arith, some, scanned.within.0) in
-    let next : n ≡ i + 1 = omega (arith, some) in
-    let (m, is, half) = fitting_bound l bound (sym is_fit ∙ holds) in
-    record {
-      limits = limits_passed (λ j. All (BearsShrinking nodes j) names)
-          (λ j k. BearsStep (roles_by role_of) nodes j (edge_at p.edges k))
-          (Obstructs p (roles_by role_of) nodes) old.edges i m l less is
-          (λ j le.
-          slack_bears p (roles_by role_of) nodes j (get_or old.edges i 0) seen.dual seen.roles (seen.within i 0 less)
-          (omega (arith, le, half, subst (λ k. bound ≤ slack_at p nodes k) (scanned.same i (omega (arith, some))) bounded)))
-          (subst (λ x. LimitsBoth p (roles_by role_of) nodes names (drop x old.edges) l) next scanned.limits);
-      within = (omega (arith, less), omega (arith, scanned.within.1));
-      same = λ j before. scanned.same j (omega (arith, before));
-      watched = scanned.watched;
-      bounded = scanned.bounded;
-    }
-
--- the next edges, `d` of them, are passed over
-pub scanned_skipped : (p : Problem) (role_of : ℕ → Role) (nodes : List Node) (names : List ℕ) (old new : Watched) (d n k : ℕ)
-    (l : Look) → IsSeen p role_of nodes old.edges → IsScanned p role_of nodes names old new n l → n ≡ k + d
-    → ((i : ℕ) → k ≤ i → i < n → fits_within l (get_or new.bounds i 0) ≡ true) → IsScanned p role_of nodes names old new k l
-scanned_skipped p role_of nodes names old new zero n k l seen scanned count fits =
-    subst (λ m. IsScanned p role_of nodes names old new m l) (omega (arith, count)) scanned
-scanned_skipped p role_of nodes names old new (suc d) n k l seen scanned count fits =
-    scanned_skipped p role_of nodes names old new d (n - 1) k l seen
-    (scanned_passed p role_of nodes names old new n (get_or new.bounds (n - 1) 0) l true seen scanned (omega (arith, count))
-    (scanned.bounded (n - 1) (omega (arith, count, scanned.within.1)))
-    (sym (fits (n - 1) (omega (arith, count)) (omega (arith, count)))) refl)
-    (omega (arith, count))
-    (λ i from before. fits i from (omega (arith, before)))
 
 -- the bound of one edge is set to at most its limit
 bounded_set : (limit : ℕ → ℕ) (w : Watched) (i x : ℕ) → AreBounded limit w → x ≤ limit (get_or w.edges i 0)
@@ -152,58 +120,6 @@ bounded_set limit w i x bounded most j less = step (cases_eq j i) (cases_lt i (l
         subst (λ m. get_or (set w.bounds i x) m 0 ≤ limit (get_or w.edges m 0)) (sym same)
         (subst (λ y. y ≤ limit (get_or w.edges i 0)) (sym (get_or-set_same w.bounds i x 0 within)) most)
 
--- the bound of the edge at a place is set
-scanned_set : (p : Problem) (role_of : ℕ → Role) (nodes : List Node) (names : List ℕ) (old w new : Watched) (n i x : ℕ)
-    (l : Look) → IsScanned p role_of nodes names old w n l → x ≤ slack_at p nodes (get_or w.edges i 0)
-    → new ≡ record w { bounds = set w.bounds i x } → IsScanned p role_of nodes names old new n l
-scanned_set p role_of nodes names old w new n i x l scanned most is =
-    subst (λ v. IsScanned p role_of nodes names old v n l) (sym is) (record {
-      limits = scanned.limits;
-      within = scanned.within;
-      same = scanned.same;
-      watched = record { room = scanned.watched.room; kept = scanned.watched.kept; none_new = scanned.watched.none_new };
-      bounded = bounded_set (slack_at p nodes) w i x scanned.bounded most;
-    })
-
--- the next edge gets its slack, or less, as its bound, and is passed over
-pub scanned_bounded : (p : Problem) (role_of : ℕ → Role) (nodes : List Node) (names : List ℕ) (old w new : Watched) (n k x y : ℕ)
-    (l : Look) (fits : Bool) → IsSeen p role_of nodes old.edges → IsScanned p role_of nodes names old w n l → 0 < n
-    → k ≡ get_or w.edges (n - 1) 0 → x ≡ slack_at p nodes k → y ≤ x → new ≡ record w { bounds = set w.bounds (n - 1) y }
-    → fits ≡ fits_within l x → fits ≡ true → IsScanned p role_of nodes names old new (n - 1) l
-scanned_bounded p role_of nodes names old w new n k x y l fits seen scanned some at slack low is is_fit holds =
-    let here : k ≡ get_or old.edges (n - 1) 0 = at ∙ scanned.same (n - 1) (omega (arith, some)) in
-    let within : y ≤ slack_at p nodes (get_or w.edges (n - 1) 0) = omega (arith, low, slack, ap (slack_at p nodes) at) in
-    let set : IsScanned p role_of nodes names old new n l = scanned_set p role_of nodes names old w new n (n - 1) y l scanned within is in
-    scanned_passed p role_of nodes names old new n x l fits seen set some
-    (subst (λ m. x ≤ slack_at p nodes m) (sym (set.same (n - 1) (omega (arith, some))))
-    (omega (arith, slack, ap (slack_at p nodes) here)))
-    is_fit holds
-
--- the next edge gets its slack, or less, as its bound, and is looked at
-pub scanned_more : (p : Problem) (role_of : ℕ → Role) (nodes : List Node) (names : List ℕ) (old w new : Watched) (n k x y : ℕ)
-    (a b l : Look) → IsSeen p role_of nodes old.edges → IsScanned p role_of nodes names old w n a → 0 < n
-    → k ≡ get_or w.edges (n - 1) 0 → x ≡ slack_at p nodes k → y ≤ x → new ≡ record w { bounds = set w.bounds (n - 1) y }
-    → b ≡ edge_look p role_of nodes k → l ≡ both_looks a b → IsScanned p role_of nodes names old new (n - 1) l
-scanned_more p role_of nodes names old w new n k x y a b l seen before some is slack low changed looked joined =
-    let i : ℕ = n - 1 in
-    let less : i < length old.edges = omega (arith, some, before.within.0) in
-    let next : n ≡ i + 1 = omega (arith, some) in
-    let here : k ≡ get_or old.edges i 0 = is ∙ before.same i (omega (arith, some)) in
-    let within : y ≤ slack_at p nodes (get_or w.edges i 0) = omega (arith, low, slack, ap (slack_at p nodes) is) in
-    let scanned : IsScanned p role_of nodes names old new n a = scanned_set p role_of nodes names old w new n i y a before within changed in
-    record {
-      limits = subst (LimitsBoth p (roles_by role_of) nodes names (drop i old.edges)) (sym joined)
-          (limits_before (λ j. All (BearsShrinking nodes j) names)
-          (λ j m. BearsStep (roles_by role_of) nodes j (edge_at p.edges m)) (Obstructs p (roles_by role_of) nodes)
-          old.edges i a b less
-          (subst (λ m. LimitsBoth p (roles_by role_of) nodes names (drop m old.edges) a) next scanned.limits)
-          (edge_seen p role_of nodes old.edges i k b seen less here looked));
-      within = (omega (arith, less), omega (arith, scanned.within.1));
-      same = λ j before. scanned.same j (omega (arith, before));
-      watched = scanned.watched;
-      bounded = scanned.bounded;
-    }
-
 -- edges but for one that is under one node leave the watch no sooner than that one
 leaves_one : (p : Problem) (nodes : List Node) (old w new : Watched) (m : ℕ) → LeavesInner p nodes old w
     → AreUnderOne nodes (edge_at p.edges m).first (edge_at p.edges m).second → new.edge_count ≡ w.edge_count
@@ -219,51 +135,201 @@ leaves_one p nodes old w new m before under room left = record {
   none_new = λ k watched. before.none_new k (and_parts (is_in w.edges k) (not (k == m)) (sym (left k) ∙ watched)).0;
 }
 
--- the next edge is under one node, and leaves the watch
-pub scanned_left : (p : Problem) (role_of : ℕ → Role) (nodes : List Node) (names : List ℕ) (old w new : Watched) (n k : ℕ)
-    (l : Look) → IsSeen p role_of nodes old.edges → IsScanned p role_of nodes names old w n l → 0 < n
-    → k ≡ get_or w.edges (n - 1) 0 → AreUnderOne nodes (edge_at p.edges k).first (edge_at p.edges k).second
-    → new.edge_count ≡ w.edge_count
-    → ((m : ℕ) → is_in new.edges m ≡ (is_in w.edges m && not (m == get_or w.edges (n - 1) 0)))
-    → ((i : ℕ) → i < n - 1 → get_or new.edges i 0 ≡ get_or w.edges i 0) → length new.edges + 1 ≡ length w.edges
-    → AreBounded (slack_at p nodes) new → IsScanned p role_of nodes names old new (n - 1) l
-scanned_left p role_of nodes names old w new n k l seen scanned some at under room left same fewer bounded =
-    let i : ℕ = n - 1 in
-    let less : i < length old.edges = omega (arith, some, scanned.within.0) in
-    let next : n ≡ i + 1 = omega (arith, some) in
-    let first : ℕ = get_or old.edges i 0 in
-    let short : first < length p.edges = seen.within i 0 less in
-    let here : k ≡ first = at ∙ scanned.same i (omega (arith, some)) in
-    record {
-      limits = limits_unlimited (λ j. All (BearsShrinking nodes j) names)
-          (λ j k. BearsStep (roles_by role_of) nodes j (edge_at p.edges k))
-          (Obstructs p (roles_by role_of) nodes) old.edges i l less
-          (λ j.
-          edge_within_allows p (roles_by role_of) nodes j (edge_at p.edges first) seen.dual seen.roles
-          (seen.dual.packing.fits first no_edge short)
-          (subst (λ m. AreUnderOne nodes (edge_at p.edges m).first (edge_at p.edges m).second) here under))
-          (subst (λ m. LimitsBoth p (roles_by role_of) nodes names (drop m old.edges) l) next scanned.limits);
-      within = (omega (arith, less), omega (arith, fewer, scanned.within.1));
-      same = λ j before. same j before ∙ scanned.same j (omega (arith, before));
-      watched = leaves_one p nodes old w new (get_or w.edges i 0) scanned.watched
-          (subst (λ m. AreUnderOne nodes (edge_at p.edges m).first (edge_at p.edges m).second) at under) room left;
+module _ (p : Problem) (role_of : ℕ → Role) (nodes : List Node) (names : List ℕ) (old : Watched)
+    (seen : IsSeen p role_of nodes old.edges) where
+  abbrev Bears : ℕ → ℕ → Type 0
+  Bears k j = BearsStep (roles_by role_of) nodes j (edge_at p.edges k)
+
+  abbrev Blocks : Obstacle → Type 0
+  Blocks = Obstructs p (roles_by role_of) nodes
+
+  abbrev Beside : List ℕ → ℕ → Type 0
+  Beside left j = All (BearsShrinking nodes j) names × BearBeside p (roles_by role_of) nodes left old.edges j
+
+  -- the minus nodes were looked at, and no edge yet
+  pub scanned_none : (n : ℕ) (l : Look) → n ≡ length old.edges → old.queued ≤ length old.edges → AreBounded (slack_at p nodes) old
+      → Limits (λ j. All (BearsShrinking nodes j) names) Blocks l → IsScanned p role_of nodes names old old n l
+  scanned_none n l all few bounded limits = record {
+    limits = limits_same (λ j. All (BearsShrinking nodes j) names) (Beside (take n old.edges)) Blocks l
+        (λ j h. (
+          h,
+          λ k within out. absurd (true≢false (sym within ∙ (ap (λ ks. is_in ks k) (sym (take_all n old.edges (omega (arith, all)))) ∙ out))),
+        ))
+        (λ j h. h.0) limits;
+    queued = omega (arith, few, all);
+    within = omega (arith, all);
+    watched = record { room = refl; kept = λ k watched apart. watched; none_new = λ k watched. watched };
+    bounded = bounded;
+  }
+
+  -- another order, before anything is looked at
+  pub leaves_reordered : (w new : Watched) → LeavesInner p nodes old w → Reorders w new → LeavesInner p nodes old new
+  leaves_reordered w new leaves same = record {
+    room = same.count ∙ leaves.room;
+    kept = λ k watched apart. same.edges k ∙ leaves.kept k watched apart;
+    none_new = λ k watched. leaves.none_new k (sym (same.edges k) ∙ watched);
+  }
+
+  -- the next edge was chosen
+  module _ (w chosen : Watched) (n at k : ℕ) (l : Look) (scanned : IsScanned p role_of nodes names old w n l)
+      (next : IsNext w chosen n at) (here : k ≡ get_or chosen.edges at 0) where
+    still : LeavesInner p nodes old chosen
+    still = leaves_reordered w chosen scanned.watched next.same
+
+    pub watched_here : is_in old.edges k ≡ true
+    watched_here = still.none_new k (ap (is_in chosen.edges) here ∙ is_in_at chosen.edges at 0 next.within)
+
+    pub edge_within : k < length p.edges
+    edge_within = is_in-All (λ m. m < length p.edges) old.edges seen.within k watched_here
+
+    left : (e : ℕ) → is_in (take at chosen.edges) e ≡ (is_in (take n w.edges) e && not (e == k))
+    left e = next.left e ∙ ap (λ m. is_in (take n w.edges) e && not (e == m)) (sym here)
+
+    there : (j : ℕ) → Beside (take n w.edges) j → Bears k j → Beside (take at chosen.edges) j
+    there j known bears = (known.0, λ e within out. by e within out (e == k) refl)
+      where
+        by : (e : ℕ) → is_in old.edges e ≡ true → is_in (take at chosen.edges) e ≡ false → (b : Bool) → (e == k) ≡ b → Bears e j
+        by e within out true is = subst (λ m. Bears m j) (sym (eqb-true e k is)) bears
+        by e within out false is =
+            known.1 e within
+            (sym (and-true (is_in (take n w.edges) e))
+            ∙ (ap (λ b. is_in (take n w.edges) e && not b) (sym is) ∙ (sym (left e) ∙ out)))
+
+    back : (j : ℕ) → Beside (take at chosen.edges) j → Beside (take n w.edges) j × Bears k j
+    back j known = (
+      (known.0, λ e within out. known.1 e within (left e ∙ ap (λ b. b && not (e == k)) out)),
+      known.1 k watched_here
+          (left k
+          ∙ (ap (λ b. is_in (take n w.edges) k && not b) (eq-eqb k k refl) ∙ and-false (is_in (take n w.edges) k))),
+    )
+
+    -- what is known once the edge has been dealt with, in a watch with the same edges up to it
+    dealt : (new : Watched) (m : Look) → new.queued ≡ chosen.queued → at ≤ length new.edges
+        → take at new.edges ≡ take at chosen.edges → LeavesInner p nodes old new → AreBounded (slack_at p nodes) new
+        → Limits (Beside (take at chosen.edges)) Blocks m → IsScanned p role_of nodes names old new at m
+    dealt new m queued within same leaves bounded limits = record {
+      limits = subst (λ ks. Limits (Beside ks) Blocks m) (sym same) limits;
+      queued = omega (arith, queued, next.queued);
+      within = within;
+      watched = leaves;
       bounded = bounded;
     }
 
--- where there is an obstacle, it doesn't matter which edges were looked at
-pub scanned_blocked : (p : Problem) (role_of : ℕ → Role) (nodes : List Node) (names : List ℕ) (old new : Watched) (n : ℕ)
-    (l : Look) (o : Obstacle) → l ≡ Blocked o → IsScanned p role_of nodes names old new n l
-    → LimitsBoth p (roles_by role_of) nodes names old.edges l
-scanned_blocked p role_of nodes names old new n l o is scanned =
-    limits_blocked
-    (λ j. All (BearsShrinking nodes j) names
-    × All (λ k. BearsStep (roles_by role_of) nodes j (edge_at p.edges k)) (drop n old.edges))
-    (λ j. All (BearsShrinking nodes j) names × All (λ k. BearsStep (roles_by role_of) nodes j (edge_at p.edges k)) old.edges)
-    (Obstructs p (roles_by role_of) nodes) l o is scanned.limits
+    bounded_chosen : AreBounded (slack_at p nodes) chosen
+    bounded_chosen = next.same.bounds (slack_at p nodes) scanned.bounded
 
--- all edges were looked at or passed over
-pub scanned_all : (p : Problem) (role_of : ℕ → Role) (nodes : List Node) (names : List ℕ) (old new : Watched) (n : ℕ) (l : Look)
-    → n ≤ 0 → IsScanned p role_of nodes names old new n l → LimitsBoth p (roles_by role_of) nodes names old.edges l
-scanned_all p role_of nodes names old new n l none scanned =
-    let first : n ≡ 0 = omega (arith, none) in
-    subst (λ x. LimitsBoth p (roles_by role_of) nodes names (drop x old.edges) l) first scanned.limits
+    bears_within : (x : ℕ) → x ≤ slack_at p nodes k → fits_within l x ≡ true
+        → (m : ℕ) × (l ≡ Within m) × ((j : ℕ) → j ≤ m → Bears k j)
+    bears_within x most fits =
+        let (m, is, half) = fitting_bound l x fits in
+        (m, is, λ j le. slack_bears p (roles_by role_of) nodes j k seen.dual seen.roles edge_within (omega (arith, le, half, most)))
+
+    passed : (x : ℕ) → x ≤ slack_at p nodes k → fits_within l x ≡ true → Limits (Beside (take at chosen.edges)) Blocks l
+    passed x most fits =
+        let (m, is, bears) = bears_within x most fits in
+        limits_passed (Beside (take n w.edges)) (Beside (take at chosen.edges)) (Bears k) Blocks there back m l is bears scanned.limits
+
+    -- its bound suffices
+    pub scanned_passed : (bound : ℕ) → bound ≡ get_or chosen.bounds at 0 → fits_within l bound ≡ true
+        → IsScanned p role_of nodes names old chosen at l
+    scanned_passed bound is fits =
+        dealt chosen l refl (omega (arith, next.within)) refl still bounded_chosen
+        (passed bound (omega (arith, is, bounded_chosen at next.within, ap (slack_at p nodes) here)) fits)
+
+    -- it is under one node, and is watched no longer
+    pub scanned_left : (new : Watched) → AreDistinct chosen.edges → length chosen.bounds ≡ length chosen.edges
+        → AreUnderOne nodes (edge_at p.edges k).first (edge_at p.edges k).second
+        → new ≡ record chosen { edges = swap_remove chosen.edges at 0; bounds = swap_remove chosen.bounds at 0 }
+        → IsScanned p role_of nodes names old new at l
+    scanned_left new distinct even under is =
+        subst (λ v. IsScanned p role_of nodes names old v at l) (sym is)
+        (dealt (record chosen { edges = swap_remove chosen.edges at 0; bounds = swap_remove chosen.bounds at 0 }) l refl
+        (omega (arith, next.within, length-swapped chosen.edges at 0 next.within))
+        (taken_before chosen.edges at next.within)
+        (leaves_one p nodes old chosen (record chosen { edges = swap_remove chosen.edges at 0; bounds = swap_remove chosen.bounds at 0 })
+        k still under refl
+        (λ e. is_in_taken chosen.edges (swap_remove chosen.edges at 0) at k k next.within (sym here) distinct
+        (here ∙ sym (get_or_default_zero chosen.edges at k next.within)) (taken_default chosen.edges at 0 k next.within) e))
+        (bounded_taken (slack_at p nodes) chosen at even next.within bounded_chosen)
+        (limits_unlimited (Beside (take n w.edges)) (Beside (take at chosen.edges)) (Bears k) Blocks there back l
+        (λ j.
+        edge_within_allows p (roles_by role_of) nodes j (edge_at p.edges k) seen.dual seen.roles
+        (seen.dual.packing.fits k no_edge edge_within) under)
+        scanned.limits))
+
+    -- its bound is set to at most its slack
+    module _ (new : Watched) (x y : ℕ) (slack : x ≡ slack_at p nodes k) (low : y ≤ x)
+        (is : new ≡ record chosen { bounds = set chosen.bounds at y }) where
+      set_to : (m : Look) → Limits (Beside (take at chosen.edges)) Blocks m → IsScanned p role_of nodes names old new at m
+      set_to m limits =
+          subst (λ v. IsScanned p role_of nodes names old v at m) (sym is)
+          (dealt (record chosen { bounds = set chosen.bounds at y }) m refl (omega (arith, next.within)) refl
+          (record { room = still.room; kept = still.kept; none_new = still.none_new })
+          (bounded_set (slack_at p nodes) chosen at y bounded_chosen (omega (arith, low, slack, ap (slack_at p nodes) here)))
+          limits)
+
+      -- and it bears what the others allow
+      pub scanned_bounded : fits_within l x ≡ true → IsScanned p role_of nodes names old new at l
+      scanned_bounded fits = set_to l (passed x (omega (arith, slack)) fits)
+
+      -- and it is looked at
+      pub scanned_more : (b both : Look) → b ≡ edge_look p role_of nodes k → both ≡ both_looks l b
+          → IsScanned p role_of nodes names old new at both
+      scanned_more b both looked joined =
+          set_to both
+          (subst (Limits (Beside (take at chosen.edges)) Blocks) (sym joined)
+          (limits_next (Beside (take n w.edges)) (Beside (take at chosen.edges)) (Bears k) Blocks there back l b scanned.limits
+          (edge_looked p role_of nodes k b seen.dual seen.roles seen.parity seen.limits edge_within looked)))
+
+  -- Where there is an obstacle, it doesn't matter which edges were looked at.
+  pub scanned_blocked : (new : Watched) (n : ℕ) (l : Look) (o : Obstacle) → l ≡ Blocked o
+      → IsScanned p role_of nodes names old new n l → LimitsBoth p (roles_by role_of) nodes names old.edges l
+  scanned_blocked new n l o is scanned =
+      limits_blocked (Beside (take n new.edges)) (λ j. All (BearsShrinking nodes j) names × All (λ k. Bears k j) old.edges)
+      Blocks l o is scanned.limits
+
+  -- The bounds of all edges that are left suffice.
+  module _ (new : Watched) (n : ℕ) (l : Look) (scanned : IsScanned p role_of nodes names old new n l)
+      (fit : (i : ℕ) → i < n → fits_within l (get_or new.bounds i 0) ≡ true) where
+    -- an edge that is left has a bound that suffices
+    sufficing : (k : ℕ) → is_in (take n new.edges) k ≡ true → (x : ℕ) × (x ≤ slack_at p nodes k) × (fits_within l x ≡ true)
+    sufficing k left =
+        is_in-All (λ e. (x : ℕ) × (x ≤ slack_at p nodes e) × (fits_within l x ≡ true)) (take n new.edges)
+        (All-from_get_or (λ e. (x : ℕ) × (x ≤ slack_at p nodes e) × (fits_within l x ≡ true)) (take n new.edges) 0
+        (λ i less.
+        let before : i < n = omega (arith, less, length-take-le n new.edges scanned.within) in (
+          get_or new.bounds i 0,
+          subst (λ e. get_or new.bounds i 0 ≤ slack_at p nodes e) (sym (get_or-take n new.edges i 0 before))
+              (scanned.bounded i (omega (arith, before, scanned.within))),
+          fit i before,
+        ))) k left
+
+    bears_left : (k j : ℕ) → is_in old.edges k ≡ true → ((m : ℕ) → l ≡ Within m → j ≤ m) → is_in (take n new.edges) k ≡ true
+        → Bears k j
+    bears_left k j within short left =
+        let (x, most, fits) = sufficing k left in
+        let (m, is, half) = fitting_bound l x fits in
+        slack_bears p (roles_by role_of) nodes j k seen.dual seen.roles
+        (is_in-All (λ e. e < length p.edges) old.edges seen.within k within) (omega (arith, short m is, half, most))
+
+    bear_all : (j : ℕ) → Beside (take n new.edges) j → ((m : ℕ) → l ≡ Within m → j ≤ m) → All (λ k. Bears k j) old.edges
+    bear_all j known short = All-from_is_in (λ k. Bears k j) old.edges (λ k within. by k within (is_in (take n new.edges) k) refl)
+      where
+        by : (k : ℕ) → is_in old.edges k ≡ true → (b : Bool) → is_in (take n new.edges) k ≡ b → Bears k j
+        by k within true left = bears_left k j within short left
+        by k within false out = known.1 k within out
+
+    pub scanned_all : LimitsBoth p (roles_by role_of) nodes names old.edges l
+    scanned_all = by l refl scanned.limits
+      where
+        by : (m : Look) → l ≡ m → Limits (Beside (take n new.edges)) Blocks m
+            → Limits (λ j. All (BearsShrinking nodes j) names × All (λ k. Bears k j) old.edges) Blocks m
+        by Clear is limits = λ j. ((limits j).0, bear_all j (limits j) (λ m e. absurd (clear_not m (sym is ∙ e))))
+        by (Within m) is limits = (
+          limits.0,
+          λ j le.
+              let known = limits.1 j le in
+              (known.0, bear_all j known (λ n e. omega (arith, le, ap bound_of (sym is ∙ e)))),
+          λ j h. limits.2 j (h.0, λ k within out. is_in-All (λ e. Bears e j) old.edges h.1 k within),
+        )
+        by (Blocked o) is limits = limits

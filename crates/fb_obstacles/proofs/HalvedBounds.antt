@@ -1,5 +1,6 @@
 -- A watch in which the bound of one edge is halved, or that edge is new.
-use Rattle.std.proofs.Common.{ℕ, zero, suc, ◌≡◌, ◌/◌, ◌≤◌, ◌<◌, ◌==◌, ◌⊎◌, inl, inr, Bool, true, false, cond, List, [], ◌∷◌, ◌++◌, length, get_or, set, refl, sym, ap, ◌∙◌, subst, length-append, arith}
+use Rattle.std.proofs.Common.{ℕ, zero, suc, ◌≡◌, ◌/◌, ◌≤◌, ◌<◌, ◌==◌, ◌||◌, ◌⊎◌, inl, inr, Bool, true, false, cond, List, [], ◌∷◌, ◌++◌, length, get_or, set, refl, sym, ap, ◌∙◌, subst, length-append, arith}
+use Rattle.std.proofs.Math.Bool.{or-false, or-true}
 use Rattle.std.proofs.lemmas.Bool.{both_ways, cases_eq, cases_lt, eqb-true}
 use Rattle.std.proofs.lemmas.List.{get_or-set_same, get_or-set_other, get_or_append_left, get_or_push}
 use Rattle.fb_graph.specs.Parity.{is_in}
@@ -57,7 +58,7 @@ bounded_halved limit w edge place half distinct even within at is bounds i less 
 pub bounded_begun : (limit : ℕ → ℕ) (w : Watched) (edge : ℕ) → length w.bounds ≡ length w.edges → is_in w.edges edge ≡ false
     → AreBounded limit w
     → AreBounded (halved_at limit edge)
-    (record { edge_count = w.edge_count; edges = w.edges ++ edge ∷ []; bounds = w.bounds ++ 0 ∷ [] })
+    (record w { edges = w.edges ++ edge ∷ []; bounds = w.bounds ++ 0 ∷ [] })
 bounded_begun limit w edge even absent bounds i less = step (cases_lt i (length w.edges))
   where
     step : (i < length w.edges) ⊎ (length w.edges ≤ i)
@@ -72,3 +73,13 @@ bounded_begun limit w edge even absent bounds i less = step (cases_lt i (length 
     step (inr after) =
         let last : length w.bounds ≡ i = omega (arith, even, after, less, length-append w.edges (edge ∷ [])) in
         omega (arith, get_or_push w.bounds 0 0 i last)
+
+-- an edge that is watched already
+pub entered_already : (edges : List ℕ) (edge e : ℕ) → is_in edges edge ≡ true → is_in edges e ≡ (is_in edges e || (e == edge))
+entered_already edges edge e within = step (e == edge) refl
+  where
+    step : (b : Bool) → (e == edge) ≡ b → is_in edges e ≡ (is_in edges e || b)
+    step true is =
+        let here : is_in edges e ≡ true = ap (is_in edges) (eqb-true e edge is) ∙ within in
+        here ∙ sym (or-true (is_in edges e))
+    step false is = sym (or-false (is_in edges e))

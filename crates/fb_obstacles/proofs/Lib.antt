@@ -1,5 +1,6 @@
 pub mod BoundedScans
 pub mod Conclusions
+pub mod DueLists
 pub mod EdgeLooks
 pub mod EdgeScans
 pub mod EnteredEdges
@@ -10,6 +11,7 @@ pub mod LeftEdges
 pub mod LookLimits
 pub mod LookPlaces
 pub mod NodeLooks
+pub mod QueuedEdges
 pub mod RaisedBounds
 pub mod SingleEdges
 pub mod TopLayers

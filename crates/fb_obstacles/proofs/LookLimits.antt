@@ -1,24 +1,12 @@
 -- Looks at one thing after another.
-use Rattle.std.proofs.Common.{ℕ, ◌≡◌, ◌+◌, ◌≤◌, ◌<◌, ◌∷◌, ◌++◌, List, [], length, get_or, take, take_all, drop, All, sym, subst, arith}
-use Rattle.std.proofs.lemmas.List.Elements.{All-cons, All-head, All-tail, All-same, All-push}
-use Rattle.std.proofs.lemmas.List.{take_more, drop_more}
+use Rattle.std.proofs.Common.{ℕ, ◌≡◌, ◌+◌, ◌≤◌, ◌<◌, ◌∷◌, ◌++◌, List, [], length, get_or, take, take_all, All, sym, subst, arith}
+use Rattle.std.proofs.lemmas.List.Elements.{All-push}
+use Rattle.std.proofs.lemmas.List.{take_more}
 use Rattle.fb_graph.proofs.Nodes.{All-below, All-top}
 use Rattle.fb_obstacles.specs.declared.obstacle.Obstacle.{Obstacle}
 use Rattle.fb_obstacles.specs.declared.looking.Look.{Look}
 use Rattle.fb_obstacles.specs.declared.looking.Look.TheVariants.{Clear, Within, Blocked}
 use Rattle.fb_obstacles.specs.InternalLooks.{both_looks, Limits}
-
-All_drop-front : (P : ℕ → Type 0) (xs : List ℕ) (i : ℕ) → i < length xs → P (get_or xs i 0) → All P (drop (i + 1) xs)
-    → All P (drop i xs)
-All_drop-front P xs i less here rest =
-    All-same P (drop i xs) (get_or xs i 0 ∷ drop (i + 1) xs) (drop_more xs i 0 less)
-    (All-cons P (get_or xs i 0) (drop (i + 1) xs) here rest)
-
-All_drop-split : (P : ℕ → Type 0) (xs : List ℕ) (i : ℕ) → i < length xs → All P (drop i xs)
-    → P (get_or xs i 0) × All P (drop (i + 1) xs)
-All_drop-split P xs i less all =
-    let whole : All P (get_or xs i 0 ∷ drop (i + 1) xs) = subst (All P) (drop_more xs i 0 less) all in
-    (All-head P (get_or xs i 0) (drop (i + 1) xs) whole, All-tail P (get_or xs i 0) (drop (i + 1) xs) whole)
 
 -- the same lengths told otherwise
 pub limits_same : (A B : ℕ → Type 0) (S : Obstacle → Type 0) (l : Look) → ((j : ℕ) → A j → B j) → ((j : ℕ) → B j → A j)
@@ -63,40 +51,20 @@ limits_more P S xs i a b less first second =
     ))
     (limits_both (λ j. All (P j) (take i xs)) (λ j. P j (get_or xs i 0)) S a b first second))
 
--- one more of a list is looked at, before what stands behind it
-pub limits_before : (A : ℕ → Type 0) (P : ℕ → ℕ → Type 0) (S : Obstacle → Type 0) (xs : List ℕ) (i : ℕ) (a b : Look)
-    → i < length xs → Limits (λ j. A j × All (P j) (drop (i + 1) xs)) S a → Limits (λ j. P j (get_or xs i 0)) S b
-    → Limits (λ j. A j × All (P j) (drop i xs)) S (both_looks a b)
-limits_before A P S xs i a b less first second =
-    limits_same (λ j. (A j × All (P j) (drop (i + 1) xs)) × P j (get_or xs i 0)) (λ j. A j × All (P j) (drop i xs)) S
-    (both_looks a b)
-    (λ j h. (h.0.0, All_drop-front (P j) xs i less h.1 h.0.1))
-    (λ j h. let (here, rest) = All_drop-split (P j) xs i less h.1 in ((h.0, rest), here))
-    (limits_both (λ j. A j × All (P j) (drop (i + 1) xs)) (λ j. P j (get_or xs i 0)) S a b first second)
+-- One thing more, beside what was known: it is looked at, or allows what the look does, or any length.
+module _ (A B P : ℕ → Type 0) (S : Obstacle → Type 0) (there : (j : ℕ) → A j → P j → B j) (back : (j : ℕ) → B j → A j × P j) where
+  pub limits_next : (a b : Look) → Limits A S a → Limits P S b → Limits B S (both_looks a b)
+  limits_next a b first second =
+      limits_same (λ j. A j × P j) B S (both_looks a b) (λ j h. there j h.0 h.1) back (limits_both A P S a b first second)
 
--- one more is passed over, since it allows each length that the look does
-pub limits_passed : (A : ℕ → Type 0) (P : ℕ → ℕ → Type 0) (S : Obstacle → Type 0) (xs : List ℕ) (i m : ℕ) (l : Look)
-    → i < length xs → l ≡ Within m → ((j : ℕ) → j ≤ m → P j (get_or xs i 0))
-    → Limits (λ j. A j × All (P j) (drop (i + 1) xs)) S l → Limits (λ j. A j × All (P j) (drop i xs)) S l
-limits_passed A P S xs i m l less is bears limits =
-    subst (Limits (λ j. A j × All (P j) (drop i xs)) S) (sym is)
-    (passed (subst (Limits (λ j. A j × All (P j) (drop (i + 1) xs)) S) is limits))
-  where
-    passed : Limits (λ j. A j × All (P j) (drop (i + 1) xs)) S (Within m) → Limits (λ j. A j × All (P j) (drop i xs)) S (Within m)
-    passed (some, below, above) = (
-      some,
-      λ j le. let (first, rest) = below j le in (first, All_drop-front (P j) xs i less (bears j le) rest),
-      λ j h. above j (h.0, (All_drop-split (P j) xs i less h.1).1),
-    )
+  pub limits_passed : (m : ℕ) (l : Look) → l ≡ Within m → ((j : ℕ) → j ≤ m → P j) → Limits A S l → Limits B S l
+  limits_passed m l is bears limits = subst (Limits B S) (sym is) (passed (subst (Limits A S) is limits))
+    where
+      passed : Limits A S (Within m) → Limits B S (Within m)
+      passed (some, below, above) = (some, λ j le. there j (below j le) (bears j le), λ j h. above j (back j h).0)
 
--- one more allows every length
-pub limits_unlimited : (A : ℕ → Type 0) (P : ℕ → ℕ → Type 0) (S : Obstacle → Type 0) (xs : List ℕ) (i : ℕ) (l : Look)
-    → i < length xs → ((j : ℕ) → P j (get_or xs i 0)) → Limits (λ j. A j × All (P j) (drop (i + 1) xs)) S l
-    → Limits (λ j. A j × All (P j) (drop i xs)) S l
-limits_unlimited A P S xs i l less bears limits =
-    limits_same (λ j. A j × All (P j) (drop (i + 1) xs)) (λ j. A j × All (P j) (drop i xs)) S l
-    (λ j h. (h.0, All_drop-front (P j) xs i less (bears j) h.1))
-    (λ j h. (h.0, (All_drop-split (P j) xs i less h.1).1)) limits
+  pub limits_unlimited : (l : Look) → ((j : ℕ) → P j) → Limits A S l → Limits B S l
+  limits_unlimited l bears limits = limits_same A B S l (λ j h. there j h (bears j)) (λ j h. (back j h).0) limits
 
 -- where an obstacle stands, it doesn't matter what else was looked at
 pub limits_blocked : (A B : ℕ → Type 0) (S : Obstacle → Type 0) (l : Look) (o : Obstacle) → l ≡ Blocked o

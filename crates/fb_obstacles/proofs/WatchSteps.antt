@@ -21,7 +21,7 @@ bounded_by old new watched more bounds i less =
 
 -- the watched edges with one more, which has no bound yet
 abbrev with_edge : Watched → ℕ → Watched
-with_edge w edge = record { edge_count = w.edge_count; edges = w.edges ++ edge ∷ []; bounds = w.bounds ++ 0 ∷ [] }
+with_edge w edge = record w { edges = w.edges ++ edge ∷ []; bounds = w.bounds ++ 0 ∷ [] }
 
 bounded_entered : (limit : ℕ → ℕ) (w : Watched) (edge : ℕ) → length w.bounds ≡ length w.edges → AreBounded limit w
     → AreBounded limit (with_edge w edge)

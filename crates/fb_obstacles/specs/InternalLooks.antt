@@ -1,5 +1,6 @@
 -- How the edges and minus nodes are looked at.
 use Rattle.std.specs.Prelude.{ℕ, ◌≡◌, ◌+◌, ◌-◌, ◌*◌, ◌/◌, ◌≤◌, ◌==◌, ◌&&◌, Bool, true, false, min, nat_lt, nat_le, List, length, All, Option, Some, None, option_map, is_some, if◌then◌else◌}
+use Rattle.fb_graph.specs.Parity.{is_in}
 use Rattle.fb_graph.specs.Problem.{Problem, edge_at}
 use Rattle.fb_graph.specs.Dual.{Node, cover_of, is_empty, layers_at}
 use Rattle.fb_graph.specs.Steps.{Roles}
@@ -131,3 +132,8 @@ LimitsBoth p roles nodes names ks look =
 abbrev pub CountsLooked : Look → ℕ → ℕ → ℕ → Type 0
 CountsLooked (Blocked o) count before after = (before ≤ after) × (after ≤ before + count)
 CountsLooked look count before after = after ≡ before + count
+
+-- the edges in a list bear steps of this length, but for those in another list
+abbrev pub BearBeside : Problem → Roles → List Node → (left ks : List ℕ) → ℕ → Type 0
+BearBeside p roles nodes left ks j =
+    (k : ℕ) → is_in ks k ≡ true → is_in left k ≡ false → BearsStep roles nodes j (edge_at p.edges k)

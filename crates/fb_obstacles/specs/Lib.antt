@@ -1,6 +1,7 @@
 pub mod EdgeHashes
 pub mod InnerEdges
 pub mod InternalLooks
+pub mod InternalQueue
 pub mod InternalSingles
 pub mod InternalWatch
 pub mod InternalWatching

@@ -1,9 +1,10 @@
-ghost use Rattle.std.specs.Prelude.{ℕ, ◌≡◌, ◌+◌, ◌<◌, ◌≤◌, true, length, get_or, All};
+ghost use Rattle.std.specs.Prelude.{ℕ, ◌≡◌, ◌+◌, ◌<◌, ◌≤◌, true, length, get_or, All, IfNone, IfSome};
 ghost use Rattle.fb_graph.specs.Covers.{AreRoles};
 ghost use Rattle.fb_obstacles.specs.Obstacles.{HavePlusParity, ListsMinus, slack_at, roles_by};
 ghost use Rattle.fb_obstacles.specs.Watched.{AreBounded};
 ghost use Rattle.fb_obstacles.specs.InnerEdges.{LeavesInner};
 ghost use Rattle.fb_obstacles.specs.InternalLooks.{LimitsBoth, both_looks, fits_within};
+ghost use Rattle.fb_obstacles.specs.InternalWatch.{IsNext};
 
 use crate::ends::{Ends, keeps_dual};
 use crate::looking::{Look, look_with};
@@ -13,23 +14,32 @@ use fb_graph::{Scope, Steps};
 use fb_regions::Regions;
 use std::sync::ledger::Ledger;
 
-/// A place from which up to this one all bounds show that their edges bear each step that the look allows.
-fn passed_to(watch: &Watch, place: usize, least: Look) -> usize
-    requires { place ≤ length watch.now.edges }
-    ensures within { result ≤ place }
-    ensures fit { (i : ℕ) → result ≤ i → i < place → fits_within least (get_or watch.now.bounds i 0) ≡ true }
+/// The place of the next edge to be looked at before this place: the last one, if it doesn't wait in the queue, or else
+/// one that is taken out of it since its bound doesn't show that it bears what the look allows.
+fn next_place(watch: &mut Watch, place: usize, least: Look) -> Option<usize>
+    requires queued { watch.old.queued ≤ place }
+    requires within { place ≤ length watch.old.edges }
+    ensures next { IfSome result (IsNext watch.old watch.new place) }
+    ensures rest { IfNone result ((i : ℕ) → i < place → fits_within least (get_or watch.new.bounds i 0) ≡ true) }
+    ensures unchanged { IfNone result (watch.new ≡ watch.old) }
 {
-    let Look::Within(bound) = least else {
-        return place;
+    watch.keeps();
+    if watch.queued() < place {
+        return Some(place - 1);
+    }
+    let limit = match least {
+        Look::Within(bound) => bound.checked_mul(2),
+        _ => None,
     };
-    match bound.checked_mul(2) {
-        Some(limit) => watch.large_from(place, limit),
-        None => place,
+    if watch.pop_due(limit) {
+        Some(place - 1)
+    } else {
+        None
     }
 }
 
-/// Both looks in one, the other one being at the edge of this place, which is kept in mind if it limits the step.
-fn with_look(watch: &mut Watch, place: usize, least: Look, look: Look) -> Look
+/// Both looks in one, the other one being at this edge, which is kept in mind if it limits the step.
+fn with_look(watch: &mut Watch, edge: u32, least: Look, look: Look) -> Look
     ensures both { result ≡ both_looks least look }
     ensures same { watch.new ≡ watch.old }
 {
@@ -37,17 +47,41 @@ fn with_look(watch: &mut Watch, place: usize, least: Look, look: Look) -> Look
     match (least, both) {
         (Look::Clear, Look::Clear) => {}
         (Look::Within(before), Look::Within(now)) if before == now => {}
-        _ => watch.set_limiting(place),
+        _ => watch.set_limiting(edge),
     }
     both
 }
 
 /// A look at all minus nodes and watched edges, up to the first obstacle. Passes over each edge whose bound shows that it
-/// bears what the others allow, and sets the bound of each edge that it looks at to its slack. An edge both of whose ends
-/// one outer node holds never limits the step: if the look finds one, it is watched no longer.
-///
-/// Goes from the last edge to the first: the last ones have no bound yet, and mostly limit the step.
+/// bears what the others allow, without a look at the bounds of those that wait in the queue with a later one. Sets the bound
+/// of each edge that it looks at to its slack, and puts it into the queue again. An edge both of whose ends one outer node
+/// holds never limits the step: if the look finds one, it is watched no longer.
 pub fn look_by_bounds<S: Scope, R: MinusNodes, L: Ledger>(
+    watch: &mut Watch,
+    scope: &S,
+    regions: &Regions<S>,
+    roles: &R,
+    looks: &mut Steps<L>,
+) -> Look
+    requires same { regions.now.scope ≡ scope.now }
+    requires roles { AreRoles (roles_by (R.role_of roles.now)) regions.now.nodes }
+    requires minus { ListsMinus (roles_by (R.role_of roles.now)) regions.now.nodes (R.minus_names roles.now) }
+    requires parity { HavePlusParity (roles_by (R.role_of roles.now)) regions.now.nodes }
+    requires within { All (λ k. k < length (S.problem scope.now).edges) watch.old.edges }
+    requires bounded { AreBounded (slack_at (S.problem scope.now) regions.now.nodes) watch.old }
+    ensures limits { LimitsBoth (S.problem scope.now) (roles_by (R.role_of roles.now)) regions.now.nodes (R.minus_names roles.now) watch.old.edges result }
+    ensures watched { LeavesInner (S.problem scope.now) regions.now.nodes watch.old watch.new }
+    ensures bounded { AreBounded (slack_at (S.problem scope.now) regions.now.nodes) watch.new }
+    ensures looks { (looks.old ≤ looks.new) × (looks.new ≤ looks.old + length watch.old.edges) }
+{
+    let look = scan_by_bounds(watch, scope, regions, roles, looks);
+    watch.requeue();
+    look
+}
+
+/// The look, whose edges are not put into the queue again. Goes from the last edge to the first of those that don't wait in the
+/// queue: the last ones have no bound yet, and mostly limit the step.
+fn scan_by_bounds<S: Scope, R: MinusNodes, L: Ledger>(
     watch: &mut Watch,
     scope: &S,
     regions: &Regions<S>,
@@ -67,32 +101,33 @@ pub fn look_by_bounds<S: Scope, R: MinusNodes, L: Ledger>(
 {
     keeps_dual(regions);
     scope.limits();
+    watch.keeps();
     let mut least = look_at_minus(regions, roles);
     if let Look::Blocked(_) = least {
         return least;
     }
     let mut place = watch.len();
-    while place > 0 {
-        place -= 1;
-        if least.fits_within(watch.bound_at(place)) {
-            place = passed_to(watch, place, least);
+    while let Some(at) = next_place(watch, place, least) {
+        watch.keeps();
+        place = at;
+        if least.fits_within(watch.bound_at(at)) {
             continue;
         }
         looks.tick();
-        let edge = watch.edges()[place];
+        let edge = watch.edges()[at];
         let ends = Ends::of(edge, regions);
         if ends.are_under_one() {
-            watch.leave_at(place);
+            watch.take_out(at);
             continue;
         }
         let residue = ends.residue(scope.weight(edge));
         let slack = ends.slack(residue);
-        watch.set_bound(place, slack);
+        watch.set_bound(at, slack);
         if least.fits_within(slack) {
             continue;
         }
         let look = look_with(edge, ends, residue, scope, roles);
-        least = with_look(watch, place, least, look);
+        least = with_look(watch, edge, least, look);
         if let Look::Blocked(_) = least {
             return least;
         }

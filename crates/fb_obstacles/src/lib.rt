@@ -9,6 +9,7 @@ pub mod entering;
 pub mod finding;
 mod looking;
 pub mod obstacle;
+pub mod queue;
 mod scanning;
 pub mod shrinking;
 pub mod singles;

@@ -1,12 +1,15 @@
-ghost use Rattle.std.specs.Prelude.{ℕ, ◌≡◌, ◌+◌, ◌-◌, ◌/◌, ◌<◌, ◌≤◌, ◌==◌, ◌&&◌, ◌||◌, true, false, not, [], ◌∷◌, ◌++◌, length, map, get_or, set, nat_eq, nat_lt, None, swap, All, IfOk, IfSome, MatchOption, if◌then◌else◌};
+ghost use Rattle.std.specs.Prelude.{ℕ, ◌≡◌, ◌+◌, ◌-◌, ◌/◌, ◌<◌, ◌≤◌, ◌==◌, ◌&&◌, ◌||◌, true, false, not, [], ◌∷◌, ◌++◌, length, map, get_or, set, nat_eq, nat_lt, None, swap, All, IfNone, IfOk, IfSome, MatchOption, if◌then◌else◌};
 ghost use Rattle.std.specs.List.{position_or_len, swap_remove};
-ghost use Rattle.indexmap.specs.IndexMap.{get, keys, index_map_len, spare, set_value_at};
+ghost use Rattle.indexmap.specs.IndexMap.{get, keys, values, index_map_len, spare, set_value_at};
 ghost use Rattle.fb_graph.specs.Parity.{is_in};
 ghost use Rattle.fb_graph.specs.Counts.{as_count};
 ghost use Rattle.fb_graph.specs.Certificate.{AreDistinct};
 ghost use Rattle.fb_obstacles.specs.Watched.{AreBounded};
+ghost use Rattle.fb_obstacles.specs.InternalQueue.{is_due};
+ghost use Rattle.fb_obstacles.specs.InternalWatch.{AreDue, Reorders, unqueued};
 
 use crate::edge_hasher::EdgeHasher;
+use crate::queue::{Due, DueTimes};
 use fb_graph::{NoMemory, Scope};
 use indexmap::IndexMap;
 use std::alloc::Global;
@@ -25,32 +28,35 @@ pub struct Watch {
     /// the growth, counted from when the watch was emptied, at which the edge may become tight at the earliest.
     known: Known,
     live: usize,
+    /// The first of the watched edges, this many of them, wait in the queue, each with its value.
+    queued: usize,
+    queue: DueTimes,
     edge_count: u32,
     /// By how much all bounds were lowered since the watch was emptied, at most the greatest number.
     lowered: u64,
-    /// The place of the edge that last limited a step. Another edge may be there by now, or none.
-    limiting: usize,
+    /// The edge that last limited a step. It may be watched no longer.
+    limiting: Option<u32>,
 }
 
 impl Model for Watch {
     ghost use Rattle.std.specs.Prelude.{◌-◌, map, take};
     ghost use Rattle.indexmap.specs.IndexMap.{keys, values};
     ghost use Rattle.fb_obstacles.specs.Watched.{Watched, watched_code};
-    ghost use Rattle.fb_obstacles.specs.InternalWatch.{IsKept};
+    ghost use Rattle.fb_obstacles.specs.InternalWatch.{IsKept, IsQueued};
 
     ghost Value = { Watched };
 
     ghost coded = { watched_code };
 
-    ghost view = { λ w. record { edge_count = w.edge_count; edges = take w.live (keys w.known); bounds = map (λ b. b - w.lowered) (take w.live (values w.known)) } };
+    ghost view = { λ w. record { edge_count = w.edge_count; edges = take w.live (keys w.known); bounds = map (λ b. b - w.lowered) (take w.live (values w.known)); queued = w.queued } };
 
-    ghost invariant = { λ w. IsKept w.known w.live w.edge_count };
+    ghost invariant = { λ w. IsKept w.known w.live w.edge_count × IsQueued w.known w.live w.queued w.queue };
 }
 
 impl Watch {
     /// Watches no edge, with room for every edge of the scope.
     pub fn new<S: Scope>(alloc: Global, scope: &S) -> Result<Watch, NoMemory>
-        ensures { IfOk result (λ w. w ≡ record { edge_count = length (S.problem scope.now).edges; edges = []; bounds = [] }) }
+        ensures { IfOk result (λ w. w ≡ record { edge_count = length (S.problem scope.now).edges; edges = []; bounds = []; queued = 0 }) }
     {
         let edge_count = scope.edge_count();
         // With a group of the table for each eight edges no group overflows.
@@ -59,9 +65,11 @@ impl Watch {
         Ok(Watch {
             known,
             live: 0,
+            queued: 0,
+            queue: DueTimes::new(alloc),
             edge_count,
             lowered: 0,
-            limiting: 0,
+            limiting: None,
         })
     }
 
@@ -70,6 +78,7 @@ impl Watch {
         ensures distinct { AreDistinct self.now.edges }
         ensures within { All (λ e. e < self.now.edge_count) self.now.edges }
         ensures bounds { length self.now.bounds ≡ length self.now.edges }
+        ensures queued { self.now.queued ≤ length self.now.edges }
     {
         let _len = self.known.len();
     }
@@ -95,7 +104,7 @@ impl Watch {
     /// Watches the edge from now on. If it wasn't watched before, nothing is known of its slack.
     pub fn enter(&mut self, edge: u32)
         requires { edge < self.old.edge_count }
-        ensures { self.new ≡ (if is_in self.old.edges edge then self.old else record { edge_count = self.old.edge_count; edges = self.old.edges ++ edge ∷ []; bounds = self.old.bounds ++ 0 ∷ [] }) }
+        ensures { self.new ≡ (if is_in self.old.edges edge then self.old else record { edge_count = self.old.edge_count; edges = self.old.edges ++ edge ∷ []; bounds = self.old.bounds ++ 0 ∷ []; queued = self.old.queued }) }
     {
         let _len = self.known.len();
         let place = place_in(&mut self.known, edge);
@@ -113,14 +122,27 @@ impl Watch {
         ensures bounds { (limit : ℕ → ℕ) → AreBounded limit self.old
             → AreBounded (λ e. if e == edge then limit e / 2 else limit e) self.new }
     {
-        self.keeps();
         match self.place_of(edge) {
-            Some(place) => {
-                let half = self.bound_at(place) / 2;
-                self.set_bound(place, half);
+            Some(place) => self.halve(place),
+            None => {
+                self.keeps();
+                self.enter(edge);
             }
-            None => self.enter(edge),
         }
+    }
+
+    /// Halves the bound of the edge at this place, which then doesn't wait in the queue.
+    fn halve(&mut self, place: usize)
+        requires { place < length self.old.edges }
+        ensures count { self.new.edge_count ≡ self.old.edge_count }
+        ensures edges { (e : ℕ) → is_in self.new.edges e ≡ is_in self.old.edges e }
+        ensures bounds { (limit : ℕ → ℕ) → AreBounded limit self.old
+            → AreBounded (λ e. if e == get_or self.old.edges place 0 then limit e / 2 else limit e) self.new }
+    {
+        let half = self.bound_at(place) / 2;
+        let place = self.taken_from_queue(place);
+        self.keeps();
+        self.set_bound(place, half);
     }
 
     /// Watches the edge no longer.
@@ -135,23 +157,51 @@ impl Watch {
         }
     }
 
-    /// Watches the edge at this place no longer. The last one takes its place, and those before it keep theirs.
-    pub(crate) fn leave_at(&mut self, place: usize)
+    /// Watches the edge at this place no longer.
+    fn leave_at(&mut self, place: usize)
         requires { place < length self.old.edges }
         ensures count { self.new.edge_count ≡ self.old.edge_count }
         ensures edges { (e : ℕ) → is_in self.new.edges e ≡ (is_in self.old.edges e && not (e == get_or self.old.edges place 0)) }
-        ensures before { (i : ℕ) → i < place → get_or self.new.edges i 0 ≡ get_or self.old.edges i 0 }
         ensures len { length self.new.edges + 1 ≡ length self.old.edges }
         ensures bounds { (limit : ℕ → ℕ) → AreBounded limit self.old → AreBounded limit self.new }
     {
+        let place = self.taken_from_queue(place);
         self.keeps();
         self.take_out(place);
     }
 
-    /// Moves the edge at this place behind the watched ones. The last one takes its place, and those before it keep theirs.
-    fn take_out(&mut self, place: usize)
+    /// Takes the edge at this place out of the queue, if it waits there, and returns its new place.
+    fn taken_from_queue(&mut self, place: usize) -> usize
         requires { place < length self.old.edges }
-        ensures { self.new ≡ record { edge_count = self.old.edge_count; edges = swap_remove self.old.edges place 0; bounds = swap_remove self.old.bounds place 0 } }
+        ensures within { (self.new.queued ≤ result) × (result < length self.new.edges) }
+        ensures at { get_or self.new.edges result 0 ≡ get_or self.old.edges place 0 }
+        ensures bound { get_or self.new.bounds result 0 ≡ get_or self.old.bounds place 0 }
+        ensures same { Reorders self.old self.new }
+    {
+        self.keeps();
+        if place < self.queued {
+            self.unqueue(place);
+            self.queued
+        } else {
+            place
+        }
+    }
+
+    /// Takes the edge at this place out of the queue: it comes to stand behind those that wait there.
+    fn unqueue(&mut self, place: usize)
+        requires { place < self.old.queued }
+        ensures { self.new ≡ unqueued place self.old }
+    {
+        self.queued -= 1;
+        self.known.swap_indices(place, self.queued);
+    }
+
+    /// Moves the edge at this place, which isn't in the queue, behind the watched ones. The last one takes its place, and
+    /// those before it keep theirs.
+    pub(crate) fn take_out(&mut self, place: usize)
+        requires within { place < length self.old.edges }
+        requires queued { self.old.queued ≤ place }
+        ensures { self.new ≡ record { edge_count = self.old.edge_count; edges = swap_remove self.old.edges place 0; bounds = swap_remove self.old.bounds place 0; queued = self.old.queued } }
     {
         self.live -= 1;
         self.known.swap_indices(place, self.live);
@@ -159,10 +209,12 @@ impl Watch {
 
     /// Watches no edge any longer.
     pub fn clear(&mut self)
-        ensures { self.new ≡ record { edge_count = self.old.edge_count; edges = []; bounds = [] } }
+        ensures { self.new ≡ record { edge_count = self.old.edge_count; edges = []; bounds = []; queued = 0 } }
     {
         self.known.truncate(0);
         self.live = 0;
+        self.queued = 0;
+        self.queue.clear();
         self.lowered = 0;
     }
 
@@ -181,33 +233,87 @@ impl Watch {
         self.known[place].saturating_sub(self.lowered)
     }
 
-    /// Sets the bound of the edge at this place, or a lower one where their sum with `lowered` isn't a number of 64 bits.
+    /// Sets the bound of the edge at this place, which isn't in the queue, or a lower one where the sum with `lowered` isn't a
+    /// number of 64 bits.
     pub(crate) fn set_bound(&mut self, place: usize, bound: u64)
-        requires { place < length self.old.edges }
+        requires within { place < length self.old.edges }
+        requires queued { self.old.queued ≤ place }
         ensures most { get_or self.new.bounds place 0 ≤ bound }
         ensures rest { self.new ≡ record self.old { bounds = set self.old.bounds place (get_or self.new.bounds place 0) } }
     {
         self.known[place] = bound.saturating_add(self.lowered);
     }
 
-    /// A place from which up to the end no bound is below the limit.
-    pub(crate) fn large_from(&self, end: usize, limit: u64) -> usize
-        requires { end ≤ length self.now.edges }
-        ensures within { result ≤ end }
-        ensures large { (i : ℕ) → result ≤ i → i < end → limit ≤ get_or self.now.bounds i 0 }
+    /// Takes room in the queue for the edges that don't wait there.
+    pub fn make_room(&mut self) -> Result<(), NoMemory>
+        ensures { self.new ≡ self.old }
     {
-        let _len = self.known.len();
-        match limit.checked_add(self.lowered) {
-            Some(raised) => large_from(&self.known.values().as_slice()[..self.live], end, raised),
-            None => end,
+        self.queue.make_room(self.live - self.queued)
+    }
+
+    /// The number of watched edges that wait in the queue.
+    pub(crate) fn queued(&self) -> usize
+        ensures { result ≡ self.now.queued }
+    {
+        self.queued
+    }
+
+    /// Takes an edge whose bound is below the limit out of the queue, or any if there is no limit. Returns whether there
+    /// was one.
+    pub(crate) fn pop_due(&mut self, limit: Option<u64>) -> bool
+        ensures found { result ≡ true → (i : ℕ) × (i < self.old.queued) × (self.new ≡ unqueued i self.old) }
+        ensures none { result ≡ false → (i : ℕ) → i < self.new.queued → MatchOption limit ⊥ (λ most. most ≤ get_or self.new.bounds i 0) }
+        ensures unchanged { result ≡ false → self.new ≡ self.old }
+    {
+        let growth = match limit {
+            Some(most) => most.checked_add(self.lowered),
+            None => None,
+        };
+        match pop_waiting(&mut self.queue, &self.known, self.queued, growth) {
+            Some(place) => {
+                self.queued -= 1;
+                self.known.swap_indices(place, self.queued);
+                true
+            }
+            None => false,
         }
     }
 
-    /// The edge at this place limits the step.
-    pub(crate) fn set_limiting(&mut self, place: usize)
+    /// Puts into the queue, as far as it has room, the edges that don't wait there and may not be tight.
+    pub(crate) fn requeue(&mut self)
+        ensures { Reorders self.old self.new }
+    {
+        let mut place = self.queued;
+        while place < self.live {
+            self.queue_at(place);
+            place += 1;
+        }
+    }
+
+    /// Puts the edge at this place into the queue, if it may not be tight and there is room. It comes to stand first of those
+    /// that didn't wait there.
+    fn queue_at(&mut self, place: usize)
+        requires within { place < length self.old.edges }
+        requires queued { self.old.queued ≤ place }
+        ensures same { Reorders self.old self.new }
+        ensures queued { self.new.queued ≤ self.old.queued + 1 }
+    {
+        let growth = self.known[place];
+        if growth <= self.lowered {
+            return;
+        }
+        let edge = self.known.keys().as_slice()[place];
+        if self.queue.push(growth, edge) {
+            self.known.swap_indices(place, self.queued);
+            self.queued += 1;
+        }
+    }
+
+    /// The edge limits the step.
+    pub(crate) fn set_limiting(&mut self, edge: u32)
         ensures { self.new ≡ self.old }
     {
-        self.limiting = place;
+        self.limiting = Some(edge);
     }
 
     /// The edge that limited the last step, as a hint: it may be another watched edge, or none, and nothing but speed rests
@@ -215,7 +321,8 @@ impl Watch {
     pub fn limiting(&self) -> Option<u32>
         ensures { IfSome result (λ e. is_in self.now.edges e ≡ true) }
     {
-        self.edges().get(self.limiting).copied()
+        let edge = self.limiting?;
+        if self.holds(edge) { Some(edge) } else { None }
     }
 
     /// The number of watched edges.
@@ -271,16 +378,45 @@ fn bring(known: &mut Known, place: usize, first: usize, bound: u64)
     known.swap_indices(place, first);
 }
 
-/// The first place from which up to the end no number is below the limit.
-fn large_from(numbers: &[u64], end: usize, limit: u64) -> usize
-    requires { end ≤ length numbers.now }
-    ensures within { result ≤ end }
-    ensures large { (i : ℕ) → result ≤ i → i < end → limit ≤ get_or numbers.now i 0 }
-    ensures first { 0 < result → get_or numbers.now (result - 1) 0 < limit }
+/// The place of the edge that is due, if it waits in the queue with this growth.
+fn place_due(known: &Known, queued: usize, due: Due) -> Option<usize>
+    requires { queued ≤ index_map_len known.now }
+    ensures { MatchOption result
+        ((i : ℕ) → i < queued → get_or (keys known.now) i 0 ≡ due.edge → get_or (values known.now) i 0 ≡ due.growth → ⊥)
+        (λ place. (place < queued) × ((i : ℕ) → i < queued → get_or (keys known.now) i 0 ≡ due.edge → i ≡ place)) }
 {
-    let mut place = end;
-    while place > 0 && numbers[place - 1] >= limit {
-        place -= 1;
+    match known.get_index_of(&due.edge) {
+        Some(place) => {
+            if place < queued && known[place] == due.growth {
+                Some(place)
+            } else {
+                None
+            }
+        }
+        None => None,
     }
-    place
+}
+
+/// Takes due times out of the queue up to the first that is before the limit and is that of an edge that waits. Returns the
+/// place of that edge.
+fn pop_waiting(
+    queue: &mut DueTimes,
+    known: &Known,
+    queued: usize,
+    limit: Option<u64>,
+) -> Option<usize>
+    requires within { queued ≤ index_map_len known.now }
+    requires due { AreDue queue.old (values known.now) (keys known.now) queued }
+    ensures some { IfSome result (λ place. (place < queued)
+        × ((i : ℕ) → i < queued → (i ≡ place → ⊥) → is_due queue.new (get_or (values known.now) i 0) (get_or (keys known.now) i 0) ≡ true)) }
+    ensures none { IfNone result ((i : ℕ) → i < queued → MatchOption limit ⊥ (λ most. most ≤ get_or (values known.now) i 0)) }
+    ensures due { IfNone result (AreDue queue.new (values known.now) (keys known.now) queued) }
+{
+    while let Some(due) = queue.pop_before(limit) {
+        let place = place_due(known, queued, due);
+        if place.is_some() {
+            return place;
+        }
+    }
+    None
 }

@@ -29,6 +29,7 @@ bare_search root part = record {
     edge_count = length (problem_in part).edges;
     edges = filter (λ k. true) (range_with_len 0 (length (problem_in part).edges));
     bounds = [];
+    queued = 0;
   };
 }
 

@@ -32,6 +32,13 @@ pub(crate) enum TreeObstacle {
 }
 
 impl<'a> Searching<'a> {
+    /// Takes the room that the watch needs to keep its edges in order.
+    pub(crate) fn make_room(&mut self) -> Result<(), NoMemory>
+        ensures { self.new ≡ self.old }
+    {
+        self.watch.make_room()
+    }
+
     /// The obstacle in the tree's way, or how far the tree may step. Raises the bounds of the edges that it looks at, and
     /// no longer watches those that it finds inside one outer node.
     pub(crate) fn next<L: Ledger>(&mut self, looks: &mut Steps<L>) -> Obstacle

@@ -96,6 +96,7 @@ fn finish_within<'a, L: Ledger>(
     let mut search = search;
     let mut left = limit;
     loop {
+        search.make_room()?;
         search.keeps();
         let found = search.next(&mut looks);
         if let Some(length) = search.spent(found, &mut left) {

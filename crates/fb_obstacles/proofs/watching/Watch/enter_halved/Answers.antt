@@ -1,23 +1,20 @@
-use Rattle.std.proofs.Common.{◌≡◌, ◌∙◌, ◌++◌, ◌∷◌, [], ◌/◌, cond, get_or, ap, arith}
-use Rattle.fb_obstacles.proofs.HalvedBounds.{bounded_begun, bounded_halved}
+use Rattle.std.proofs.Common.{◌≡◌, ◌∙◌, ◌++◌, ◌∷◌, [], cond, ap}
+use Rattle.fb_obstacles.proofs.HalvedBounds.{bounded_begun, entered_already}
 use Rattle.fb_obstacles.proofs.watching.Watch.enter_halved.Goals as goal
 
+pub returns-in-Some-clause-edges : goal.returns-in-Some-clause-edges
+returns-in-Some-clause-edges c e =
+    c.halve.ensures.edges e ∙ entered_already c.args.self.now.edges c.args.edge e c.in-Some.ensures.2
+
 pub returns-in-Some-clause-bounds : goal.returns-in-Some-clause-bounds
-returns-in-Some-clause-bounds c =
-    rw c.set_bound.ensures.rest
-    (λ limit bounded.
-    bounded_halved limit c.args.self.now c.args.edge c.in-Some.place (get_or c.set_bound.new.self.bounds c.in-Some.place 0)
-    c.keeps.ensures.distinct c.keeps.ensures.bounds c.in-Some.ensures.0 c.in-Some.ensures.1
-    (omega (arith, c.set_bound.ensures.most, ap (λ b. b / 2) c.bound_at-half.ensures)) bounded)
+returns-in-Some-clause-bounds c = rw (← c.in-Some.ensures.1) c.halve.ensures.bounds
 
 pub returns-in-None-clause-bounds : goal.returns-in-None-clause-bounds
 returns-in-None-clause-bounds c =
-    let begun : c.enter.new.self ≡ record {
-      edge_count = c.args.self.now.edge_count;
+    let begun : c.enter.new.self ≡ record c.args.self.now {
       edges = c.args.self.now.edges ++ c.args.edge ∷ [];
       bounds = c.args.self.now.bounds ++ 0 ∷ [];
-    } = c.enter.ensures ∙ ap (λ b. cond b c.args.self.now (record {
-      edge_count = c.args.self.now.edge_count;
+    } = c.enter.ensures ∙ ap (λ b. cond b c.args.self.now (record c.args.self.now {
       edges = c.args.self.now.edges ++ c.args.edge ∷ [];
       bounds = c.args.self.now.bounds ++ 0 ∷ [];
     })) c.in-None.ensures in

@@ -7,10 +7,10 @@ use Rattle.fb_obstacles.proofs.watching.Watch.lower.Goals as goal
 
 pub returns : goal.returns
 returns c =
-    let watched : List ℕ → Watched = λ bs. record { edge_count = c.self.inside.edge_count; edges = take c.self.inside.live (keys c.self.inside.known); bounds = bs } in
+    let watched : List ℕ → Watched = λ bs. record { edge_count = c.self.inside.edge_count; edges = take c.self.inside.live (keys c.self.inside.known); bounds = bs; queued = c.self.inside.queued } in
     rw (← c.self.view_is)
     (ap watched
     (lowered_twice (take c.self.inside.live (values c.self.inside.known)) c.self.inside.lowered c.args.length
     c.saturating_add-self-inside.result 18446744073709551616
-    (All-take (λ b. b < 18446744073709551616) c.self.inside.live (values c.self.inside.known) c.self.invariant.small)
+    (All-take (λ b. b < 18446744073709551616) c.self.inside.live (values c.self.inside.known) c.self.invariant.0.small)
     c.saturating_add-self-inside.ensures))

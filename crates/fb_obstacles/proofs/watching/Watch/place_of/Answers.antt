@@ -11,7 +11,7 @@ pub returns-then-place-self : goal.returns-then-place-self
 returns-then-place-self c =
     let found = found_at (keys c.self.inside.known) c.args.edge c.in-Some.place c.in-Some.ensures.index in
     let most : c.self.inside.live ≤ length (keys c.self.inside.known) =
-    omega (arith, c.self.invariant.within, length-keys c.self.inside.known.entries) in
+    omega (arith, c.self.invariant.0.within, length-keys c.self.inside.known.entries) in
     let count = length-take-le c.self.inside.live (keys c.self.inside.known) most in
     let first : nat_lt (position_or_len (nat_eq c.args.edge) (keys c.self.inside.known)) c.self.inside.live ≡ true =
     ap (λ i. nat_lt i c.self.inside.live) (sym found.0) ∙ grind (arith, nat_tests) in
@@ -26,7 +26,7 @@ pub returns-else-place-self : goal.returns-else-place-self
 returns-else-place-self c =
     let found = found_at (keys c.self.inside.known) c.args.edge c.in-Some.place c.in-Some.ensures.index in
     let most : c.self.inside.live ≤ length (keys c.self.inside.known) =
-    omega (arith, c.self.invariant.within, length-keys c.self.inside.known.entries) in
+    omega (arith, c.self.invariant.0.within, length-keys c.self.inside.known.entries) in
     let past : nat_lt (position_or_len (nat_eq c.args.edge) (keys c.self.inside.known)) c.self.inside.live ≡ false =
     ap (λ i. nat_lt i c.self.inside.live) (sym found.0) ∙ grind (arith, nat_tests) in
     rw (← c.self.view_is) (among_first (keys c.self.inside.known) c.args.edge c.self.inside.live most ∙ past)
@@ -35,7 +35,7 @@ pub returns-in-None : goal.returns-in-None
 returns-in-None c =
     let past = found_nowhere (keys c.self.inside.known) c.args.edge c.in-None.ensures.index in
     let most : c.self.inside.live ≤ length (keys c.self.inside.known) =
-    omega (arith, c.self.invariant.within, length-keys c.self.inside.known.entries) in
+    omega (arith, c.self.invariant.0.within, length-keys c.self.inside.known.entries) in
     let none : nat_lt (position_or_len (nat_eq c.args.edge) (keys c.self.inside.known)) c.self.inside.live ≡ false =
     grind (arith, nat_tests) in
     rw (← c.self.view_is) (among_first (keys c.self.inside.known) c.args.edge c.self.inside.live most ∙ none)
