@@ -5,11 +5,11 @@ use Rattle.std.proofs.lemmas.Bool.{eq-eqb}
 use Rattle.std.proofs.lemmas.List.{length-map, get_or-map}
 use Rattle.fb_plan.specs.Plans.{PlanTree, IsTree, IsJoin, names, join_at, is_within}
 use Rattle.fb_plan.proofs.Trees.{within_left, within_right, within_self, within-trans}
-use Rattle.fb_gen.specs.TimePlan.{first_level, fusions_of_level, level_above, fusions_from, time_fusions, time_tree}
+use Rattle.fb_gen.specs.TimePlan.{no_fusion, first_level, fusions_of_level, level_above, fusions_from, time_fusions, time_tree}
 use Rattle.fb_gen.specs.InternalSharing.{IsShared}
 use Rattle.fb_gen.specs.declared.levels.Part.{Part}
 use Rattle.fb_gen.specs.declared.levels.Fusion.{Fusion}
-use Rattle.fb_gen.proofs.Fusions.{count-cons, count_at, once_by, no_fusion, uses_of, length-fusions, fusion_is_later, uses_once}
+use Rattle.fb_gen.proofs.Fusions.{count-cons, count_at, once_by, uses_of, length-fusions, fusion_is_later, uses_once}
 use Rattle.fb_graph.specs.Counts.{as_count}
 
 abbrev pub nodes_of : Fusion → ℕ × ℕ

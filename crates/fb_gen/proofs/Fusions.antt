@@ -7,7 +7,7 @@ use Rattle.std.proofs.lemmas.List.Elements.{All-nil, All-cons, All-head, All-tai
 use Rattle.std.proofs.lemmas.List.FromFn.{length-range_with_len}
 use Rattle.std.proofs.lemmas.List.Sums.{sum_by-cons, sum_by-append}
 use Rattle.fb_graph.proofs.Sets.{count_equal-le, distinct_from_rising, range_rises, range_below}
-use Rattle.fb_gen.specs.TimePlan.{first_level, fusions_of_level, level_above, fusions_from, time_fusions}
+use Rattle.fb_gen.specs.TimePlan.{no_fusion, first_level, fusions_of_level, level_above, fusions_from, time_fusions}
 use Rattle.fb_gen.specs.declared.levels.Part.{Part}
 use Rattle.fb_gen.specs.declared.levels.Fusion.{Fusion}
 use Rattle.fb_gen.proofs.Pairings.{length-level}
@@ -43,9 +43,6 @@ once_by p (x ∷ xs) (suc i) zero d once ilt klt here there =
     absurd (omega (arith, once, count-cons p x xs, ap as_count there, count_at p xs i d (omega arith) here))
 once_by p (x ∷ xs) (suc i) (suc k) d once ilt klt here there =
     ap (λ n. suc n) (once_by p xs i k d (omega (arith, once, count-cons p x xs)) (omega arith) (omega arith) here there)
-
-abbrev pub no_fusion : Fusion
-no_fusion = record { left = 0; right = 0; seam = 0 }
 
 -- what is left of a level after so many levels
 abbrev pub top_of : ℕ → ℕ → List Part → List Part

@@ -18,11 +18,11 @@ use Rattle.fb_plan.specs.Rules.{claims_from, holds, owner_in}
 use Rattle.fb_plan.specs.declared.parts.Claim.{Claim}
 use Rattle.fb_plan.proofs.Trees.{within_self}
 use Rattle.fb_gen.specs.Lattice.{vertex_at, vertex_count, entry_if, is_inner, edges_from, edges_of_row, edges_of_round, lattice_edges, lattice_graph, weight_within, weight_later}
-use Rattle.fb_gen.specs.TimePlan.{first_round, unit_range, seam_range, time_fusions, time_ranges, time_tree}
+use Rattle.fb_gen.specs.TimePlan.{IsRoundOf, IsSeamRound, IsUnitRound, no_fusion, first_round, unit_range, seam_range, time_fusions, time_ranges, time_tree}
 use Rattle.fb_gen.specs.InternalSharing.{IsShared}
 use Rattle.fb_gen.specs.declared.levels.Fusion.{Fusion}
 use Rattle.fb_gen.proofs.Acceptance.{time_tree_is_tree, fusion_is_between, joins_length}
-use Rattle.fb_gen.proofs.Fusions.{count-cons, count-append, count_at, once_by, no_fusion, seams_once}
+use Rattle.fb_gen.proofs.Fusions.{count-cons, count-append, count_at, once_by, seams_once}
 use Rattle.fb_gen.proofs.Grids.{All-pieces_below, All-entry_if, vertex_below}
 use Rattle.fb_gen.proofs.Rounds.{first_later, first_after_all}
 use Rattle.fb_plan.proofs.Gathering.{claims-append}
@@ -154,7 +154,7 @@ seam_bounds t u i shared less = step (cases_lt 0 s) (cases_lt s u)
     step (inl low) (inr high) = absurd (never (λ k. nat_le u k) (le-leb u s high) (λ k lt. lt-leb u (1 + k) (omega arith)))
 
 -- two fusions by one seam are one
-one_by_seam : (t u i k : ℕ) → IsShared t u → i < length (time_fusions u) → k < length (time_fusions u)
+pub one_by_seam : (t u i k : ℕ) → IsShared t u → i < length (time_fusions u) → k < length (time_fusions u)
     → (get_or (time_fusions u) i no_fusion).seam ≡ (get_or (time_fusions u) k no_fusion).seam → i ≡ k
 one_by_seam t u i k shared ilt klt same =
     once_by (λ (f : Fusion). f.seam == s) (time_fusions u) i k no_fusion
@@ -169,13 +169,13 @@ one_by_seam t u i k shared ilt klt same =
     s = (get_or (time_fusions u) k no_fusion).seam
 
 -- the first rounds tell the order of units
-unit_order : (t u a b : ℕ) → IsShared t u → first_round t u a ≤ first_round t u b → a ≤ b
+pub unit_order : (t u a b : ℕ) → IsShared t u → first_round t u a ≤ first_round t u b → a ≤ b
 unit_order t u a b shared le = elim (cases_lt b a) [
   | inl above ↦ absurd (omega (arith, first_later t u b a shared above))
   | inr fine ↦ fine
 ]
 
-unit_order_strict : (t u a b : ℕ) → IsShared t u → first_round t u a < first_round t u b → a < b
+pub unit_order_strict : (t u a b : ℕ) → IsShared t u → first_round t u a < first_round t u b → a < b
 unit_order_strict t u a b shared less = elim (cases_lt a b) [
   | inl fine ↦ fine
   | inr below ↦ elim (cases_eq a b) [
@@ -183,22 +183,6 @@ unit_order_strict t u a b shared less = elim (cases_lt a b) [
     | inr other ↦ absurd (omega (arith, first_later t u b a shared (omega arith)))
   ]
 ]
-
--- a round of a unit, and a seam round
-pub record IsUnitRound (t u k n : ℕ) : Type 0 where
-  pub node : n < u
-  pub low : first_round t u n ≤ k
-  pub high : k + 1 < first_round t u (n + 1)
-
-pub record IsSeamRound (t u k n : ℕ) : Type 0 where
-  pub place : ℕ
-  pub within : place < length (time_fusions u)
-  pub node : n ≡ u + place
-  pub round : first_round t u (get_or (time_fusions u) place no_fusion).seam ≡ k + 1
-
--- the round is one of the node's
-abbrev pub IsRoundOf : ℕ → ℕ → ℕ → ℕ → Type 0
-IsRoundOf t u k n = IsUnitRound t u k n ⊎ IsSeamRound t u k n
 
 round_of_claim : (d t u k x v : ℕ) (c : Claim) → IsShared t u → x < d * (d + 1) → v ≡ k * (d * (d + 1)) + x
     → holds v c ≡ true → IsTimeClaim d t u c → IsRoundOf t u k c.node
@@ -216,7 +200,7 @@ round_of_claim d t u k x v c shared small is held (inr seam) =
     inr (record { place = seam.place; within = seam.within; node = seam.node; round = omega (arith, between.0, between.1) })
 
 -- nodes of one round, or of two that follow on each other, lie one below the other
-related : (d t u k m n o : ℕ) → IsShared t u → (m ≡ k) ⊎ (m ≡ k + 1) → IsRoundOf t u k n → IsRoundOf t u m o
+pub related : (d t u k m n o : ℕ) → IsShared t u → (m ≡ k) ⊎ (m ≡ k + 1) → IsRoundOf t u k n → IsRoundOf t u m o
     → (is_within (time_tree d t u) n o || is_within (time_tree d t u) o n) ≡ true
 related d t u k m n o shared near (inl a) (inl b) =
     let later : n < o + 1 = unit_order_strict t u n (o + 1) shared (omega (arith, a.low, b.high, apart near)) in

@@ -19,11 +19,11 @@ use Rattle.fb_plan.specs.declared.parts.Join.{Join}
 use Rattle.fb_plan.specs.declared.faults.PlanFault.{PlanFault}
 use Rattle.fb_plan.proofs.Trees.{names_left, names_right}
 use Rattle.fb_gen.specs.Lattice.{vertex_count, lattice_graph}
-use Rattle.fb_gen.specs.TimePlan.{first_round, unit_range, seam_range, time_fusions, time_ranges, time_tree, time_plan_of}
+use Rattle.fb_gen.specs.TimePlan.{no_fusion, first_round, unit_range, seam_range, time_fusions, time_ranges, time_tree, time_plan_of}
 use Rattle.fb_gen.specs.InternalSharing.{IsShared, plain_join, join_of}
 use Rattle.fb_gen.specs.declared.levels.Fusion.{Fusion}
 use Rattle.fb_gen.proofs.Acceptance.{join_is, joins_length, time_tree_is_tree}
-use Rattle.fb_gen.proofs.Fusions.{no_fusion, length-fusions, fusion_is_later}
+use Rattle.fb_gen.proofs.Fusions.{length-fusions, fusion_is_later}
 use Rattle.fb_gen.proofs.Owners.{time_claims, covered_once, no_edge_across, seam_bounds}
 use Rattle.fb_gen.proofs.Rounds.{first_later, first_within, first_bound}
 use Rattle.fb_graph.proofs.Leasts.{least_none}

@@ -1,6 +1,6 @@
 -- The plan of a lattice by time: its units are runs of rounds with one round between two of them, and the fusions join
 -- them two and two, level by level.
-use Rattle.std.specs.Prelude.{ℕ, zero, suc, ◌+◌, ◌-◌, ◌*◌, ◌/◌, ◌%◌, nat_lt, if◌then◌else◌, List, [], ◌∷◌, ◌++◌, map, length, Result, Ok, Err}
+use Rattle.std.specs.Prelude.{ℕ, zero, suc, ◌+◌, ◌-◌, ◌*◌, ◌/◌, ◌%◌, ◌≡◌, ◌<◌, ◌≤◌, ◌⊎◌, nat_lt, if◌then◌else◌, List, [], ◌∷◌, ◌++◌, map, length, get_or, Result, Ok, Err}
 use Rattle.std.specs.List.{range_with_len}
 use Rattle.fb_plan.specs.Plans.{PlanTree}
 use Rattle.fb_plan.specs.Rules.{claims_from, owner_in}
@@ -65,6 +65,26 @@ fusions_from (suc levels) next level =
 -- all fusions, in the order in which they are made; there are fewer levels than units
 unfoldable pub time_fusions : ℕ → List Fusion
 time_fusions units = fusions_from units units (first_level units)
+
+-- no fusion: what a place past all fusions has
+abbrev pub no_fusion : Fusion
+no_fusion = record { left = 0; right = 0; seam = 0 }
+
+-- a round of a unit, and a seam round
+pub record IsUnitRound (t u k n : ℕ) : Type 0 where
+  pub node : n < u
+  pub low : first_round t u n ≤ k
+  pub high : k + 1 < first_round t u (n + 1)
+
+pub record IsSeamRound (t u k n : ℕ) : Type 0 where
+  pub place : ℕ
+  pub within : place < length (time_fusions u)
+  pub node : n ≡ u + place
+  pub round : first_round t u (get_or (time_fusions u) place no_fusion).seam ≡ k + 1
+
+-- the round is one of the node's
+abbrev pub IsRoundOf : ℕ → ℕ → ℕ → ℕ → Type 0
+IsRoundOf t u k n = IsUnitRound t u k n ⊎ IsSeamRound t u k n
 
 -- the ranges of each node: of the units, then of the fusions
 abbrev pub time_ranges : ℕ → ℕ → ℕ → List (List (ℕ × ℕ))

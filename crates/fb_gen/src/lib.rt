@@ -5,10 +5,13 @@
 pub mod drawing;
 pub mod faults;
 pub mod lattices;
-mod levels;
+pub mod levels;
 pub mod plans;
+pub mod shares;
 
 pub use drawing::{Draws, draw};
 pub use faults::GenFault;
 pub use lattices::lattice;
+pub use levels::{Fusion, all_fusions};
 pub use plans::time_plan;
+pub use shares::first_rounds;

@@ -3,11 +3,12 @@ ghost use Rattle.std.specs.List.{range_with_len};
 ghost use Rattle.fb_graph.specs.Limits.{most_vertices};
 ghost use Rattle.fb_plan.specs.Plans.{IsPlan, most_units};
 ghost use Rattle.fb_gen.specs.Lattice.{lattice_graph, lattice_of, vertex_count};
-ghost use Rattle.fb_gen.specs.TimePlan.{rounds_of_unit, first_round, range_of_rounds, unit_range, time_fusions, time_tree, time_plan_of};
+ghost use Rattle.fb_gen.specs.TimePlan.{first_round, range_of_rounds, unit_range, time_fusions, time_tree, time_plan_of};
 ghost use Rattle.fb_gen.specs.InternalSharing.{IsShared, plain_join, join_of};
 
 use crate::faults::GenFault;
 use crate::levels::{Fusion, all_fusions};
+use crate::shares::first_rounds;
 use fb_graph::{Graph, NoMemory};
 use fb_plan::{Join, Plan, PlanFault};
 use std::alloc::Global;
@@ -30,36 +31,6 @@ fn one_range(alloc: Global, range: (u64, u64)) -> Result<Vec<(u64, u64)>, NoMemo
 }
 
 impl Sharing {
-    /// How many rounds a unit has.
-    fn rounds_of_unit(self, j: u64) -> u64
-        requires shared { IsShared self.rounds self.units }
-        requires limit { self.rounds < 2 ^ 32 }
-        ensures value { result ≡ rounds_of_unit self.rounds self.units j }
-        ensures limit { result ≤ 2 ^ 32 }
-    {
-        let shared = self.rounds - (self.units - 1);
-        let more = if j < shared % self.units { 1 } else { 0 };
-        shared / self.units + more
-    }
-
-    /// The first round of each unit, and one more than the last unit's seam round would be.
-    fn first_rounds(self, alloc: Global) -> Result<Vec<u64>, NoMemory>
-        requires shared { IsShared self.rounds self.units }
-        requires limit { self.rounds < 2 ^ 32 }
-        ensures len { IfOk result (λ v. length v.items ≡ self.units + 1) }
-        ensures each { IfOk result (λ v. (k : ℕ) → k < self.units + 1
-            → get_or v.items k 0 ≡ first_round self.rounds self.units k) }
-    {
-        let mut found = Vec::new(alloc);
-        let mut first = 0;
-        found.push(first)?;
-        for j in 0..self.units {
-            first += self.rounds_of_unit(j) + 1;
-            found.push(first)?;
-        }
-        Ok(found)
-    }
-
     /// The vertices of the rounds from `start` up to and without `end`.
     fn range(self, start: u64, end: u64) -> (u64, u64)
         requires vertices { vertex_count self.distance self.rounds ≤ most_vertices }
@@ -202,7 +173,7 @@ impl Sharing {
         ensures plan { IfOk result (λ p. p ≡ time_tree self.distance self.rounds self.units) }
         ensures valid { IfOk result (IsPlan graph.now) }
     {
-        let firsts = self.first_rounds(alloc)?;
+        let firsts = first_rounds(alloc, self.rounds, self.units)?;
         let fusions = all_fusions(alloc, self.units)?;
         self.plan_of_fusions(alloc, graph, &firsts, &fusions)
     }

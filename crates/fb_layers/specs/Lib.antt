@@ -1,2 +1,5 @@
 pub mod Layers
 pub mod InternalSearch
+pub mod PlanByLayers
+pub mod Runs
+pub mod InternalCovers

@@ -4,7 +4,7 @@ ghost use Rattle.std.specs.Prelude.{◌≡◌, ℕ, ◌+◌, ◌<◌, ◌≤◌,
 ghost use Rattle.fb_graph.specs.Components.{Leads};
 ghost use Rattle.fb_graph.specs.Limits.{is_real_in};
 ghost use Rattle.fb_graph.specs.Problem.{edge_at, touches};
-ghost use Rattle.fb_layers.specs.Layers.{AreLayers, is_inner, layer_at};
+ghost use Rattle.fb_layers.specs.Layers.{AreLayers, height_of, is_inner, layer_at};
 ghost use Rattle.fb_layers.specs.InternalSearch.{Grows, IsNear, IsSearched, reached_at};
 
 use crate::depths::Layers;
@@ -14,7 +14,8 @@ use std::alloc::Global;
 
 /// The layers of a graph. It takes time linear in the size of the graph.
 pub fn layers(alloc: Global, graph: &Graph) -> Result<Layers, NoMemory>
-    ensures { IfOk result (λ l. AreLayers graph.now l) }
+    ensures layers { IfOk result (AreLayers graph.now) }
+    ensures height { IfOk result (λ l. height_of l ≤ graph.now.vertices) }
 {
     graph.limits();
     let mut search = Search::new(alloc, graph.vertices())?;

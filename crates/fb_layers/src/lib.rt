@@ -4,7 +4,15 @@
 
 pub mod depths;
 pub mod distances;
+pub mod faults;
+mod planning;
+mod ranges;
+mod rounds;
+pub mod runs;
 mod search;
 
 pub use depths::Layers;
 pub use distances::layers;
+pub use faults::LayersFault;
+pub use planning::by_layers;
+pub use runs::add_vertex;

@@ -1,0 +1,20 @@
+//! Ranges of consecutive vertices.
+
+ghost use Rattle.std.specs.Prelude.{◌≡◌, OnOk};
+ghost use Rattle.fb_layers.specs.Runs.{add_vertex};
+
+use fb_graph::NoMemory;
+
+/// Adds a vertex to ranges of smaller ones: it goes on the last range, or begins one.
+pub fn add_vertex(ranges: &mut Vec<(u64, u64)>, vertex: u32) -> Result<(), NoMemory>
+    ensures { OnOk result (ranges.new.items ≡ add_vertex ranges.old.items vertex) }
+{
+    let vertex = u64::from(vertex);
+    let count = ranges.len();
+    if 0 < count && ranges[count - 1].1 == vertex {
+        ranges[count - 1].1 = vertex + 1;
+        return Ok(());
+    }
+    ranges.push((vertex, vertex + 1))?;
+    Ok(())
+}
