@@ -1,0 +1,2 @@
+pub mod PlanWriting
+pub mod InternalWriting
