@@ -1,10 +1,11 @@
 //! Calls that no run of the program makes, on samples whose answers are known: of links, blossoms, trees, parts, boards,
-//! workers, windows, and files and sinks in memory. It prints what differs, and how many samples passed.
+//! workers, windows, plans by layers, and files and sinks in memory. It prints what differs, and how many samples passed.
 
 #![tactic(auto)]
 
 mod board;
 mod branches;
+mod layers;
 mod lines;
 mod nests;
 mod parts;
@@ -46,6 +47,10 @@ fn main(rt: HostRuntime) -> io::Result<()> {
         ("windows have places among all shots", windows::have_places_among_all_shots(&rt, alloc)),
         ("windows on the calling thread", windows::are_made_on_the_calling_thread(alloc)),
         ("tools count what is done", windows::count_what_is_done(&rt, alloc)),
+        ("layers are distances from the least vertex", layers::are_distances(alloc)),
+        ("layers are cut as rounds are", layers::are_cut(alloc)),
+        ("more units want more layers", layers::are_too_few(alloc)),
+        ("a plan by layers has its text", layers::make_texts(alloc)),
     ];
     let (mut passed, mut failed) = (0, 0);
     for (name, answer) in answers {

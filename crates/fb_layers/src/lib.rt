@@ -5,7 +5,7 @@
 pub mod depths;
 pub mod distances;
 pub mod faults;
-mod planning;
+pub mod planning;
 mod ranges;
 mod rounds;
 pub mod runs;
@@ -14,5 +14,5 @@ mod search;
 pub use depths::Layers;
 pub use distances::layers;
 pub use faults::LayersFault;
-pub use planning::by_layers;
+pub use planning::ByLayers;
 pub use runs::add_vertex;

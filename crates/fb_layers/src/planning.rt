@@ -16,10 +16,30 @@ use fb_graph::{Graph, NoMemory};
 use fb_plan::Plan;
 use std::alloc::Global;
 
-/// The plan of a graph by its layers, over all components at once. The layers are cut as a plan of a lattice by time
-/// cuts rounds: `units` runs of layers with one layer between two of them. A plan has 1 to 4,096 units; more than one
-/// unit need a layer each, and one for the seam between each two.
-pub fn by_layers(alloc: Global, graph: &Graph, units: u32) -> Result<Plan, LayersFault>
+/// Plans that are made of a graph: `Plan::by_layers`.
+pub trait ByLayers: Sized {
+    /// The plan of a graph by its layers, over all components at once. The layers are cut as a plan of a lattice by time
+    /// cuts rounds: `units` runs of layers with one layer between two of them. A plan has 1 to 4,096 units; more than
+    /// one unit need a layer each, and one for the seam between each two.
+    fn by_layers(alloc: Global, graph: &Graph, units: u32) -> Result<Self, LayersFault>
+        requires some { 1 ≤ units }
+        requires limit { units ≤ most_units };
+}
+
+impl ByLayers for Plan {
+    fn by_layers(alloc: Global, graph: &Graph, units: u32) -> Result<Plan, LayersFault>
+        requires some { 1 ≤ units }
+        requires limit { units ≤ most_units }
+        ensures plan { IfOk result (IsPlanByLayers graph.now units) }
+        ensures valid { IfOk result (IsPlan graph.now) }
+        ensures fault { IfErr result (IsFault graph.now units) }
+    {
+        plan_by_layers(alloc, graph, units)
+    }
+}
+
+/// The plan of a graph by its layers, if these are enough for so many units.
+fn plan_by_layers(alloc: Global, graph: &Graph, units: u32) -> Result<Plan, LayersFault>
     requires some { 1 ≤ units }
     requires limit { units ≤ most_units }
     ensures plan { IfOk result (IsPlanByLayers graph.now units) }
