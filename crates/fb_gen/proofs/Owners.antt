@@ -18,7 +18,7 @@ use Rattle.fb_plan.specs.Rules.{claims_from, holds, owner_in}
 use Rattle.fb_plan.specs.declared.parts.Claim.{Claim}
 use Rattle.fb_plan.proofs.Trees.{within_self}
 use Rattle.fb_gen.specs.Lattice.{vertex_at, vertex_count, entry_if, is_inner, edges_from, edges_of_row, edges_of_round, lattice_edges, lattice_graph, weight_within, weight_later}
-use Rattle.fb_gen.specs.TimePlan.{IsRoundOf, IsSeamRound, IsUnitRound, no_fusion, first_round, unit_range, seam_range, time_fusions, time_ranges, time_tree}
+use Rattle.fb_gen.specs.TimePlan.{IsRoundOf, no_fusion, first_round, unit_range, seam_range, time_fusions, time_ranges, time_tree}
 use Rattle.fb_gen.specs.InternalSharing.{IsShared}
 use Rattle.fb_gen.specs.declared.levels.Fusion.{Fusion}
 use Rattle.fb_gen.proofs.Acceptance.{time_tree_is_tree, fusion_is_between, joins_length}

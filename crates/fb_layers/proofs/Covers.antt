@@ -1,10 +1,9 @@
 -- Ranges that hold the vertices that a plan's nodes own give the plan back.
-use Rattle.std.proofs.Common.{ℕ, zero, suc, ◌+◌, ◌-◌, ◌<◌, ◌≤◌, ◌≡◌, ◌≢◌, ◌⊎◌, inl, inr, ◌==◌, ◌&&◌, ◌||◌, nat_lt, nat_le, Bool, true, false, cond, not, is_some, List, [], ◌∷◌, ◌++◌, length, map, take, get_or, count_by, All, refl, sym, ap, subst, ◌∙◌, arith, length-append}
+use Rattle.std.proofs.Common.{ℕ, zero, suc, ◌+◌, ◌<◌, ◌≤◌, ◌≡◌, ◌⊎◌, inl, inr, ◌==◌, ◌&&◌, Bool, true, false, cond, is_some, List, [], ◌∷◌, ◌++◌, length, map, take, get_or, count_by, All, refl, sym, ap, subst, ◌∙◌, arith, length-append}
 use Rattle.std.specs.Prelude.{Option, Some, None, Ok, option_map, find}
 use Rattle.std.specs.Option.{option_or}
 use Rattle.std.specs.List.{range_with_len, list_any}
-use Rattle.std.proofs.Math.Bool.{and-false}
-use Rattle.std.proofs.lemmas.Bool.{both_ways, cases_eq, cases_lt, cases_Bool, eq-eqb, ne_eqb, le-leb, lt-leb, le-ltb, lt-ltb}
+use Rattle.std.proofs.lemmas.Bool.{both_ways, cases_eq, cases_Bool, eq-eqb, ne_eqb, lt-leb, le-ltb, lt-ltb}
 use Rattle.std.proofs.lemmas.List.{get_or-take, length-take, length-map, ext_get_or}
 use Rattle.std.proofs.lemmas.List.Elements.{All-head, All-tail}
 use Rattle.std.proofs.lemmas.List.Folds.{find-append}
@@ -13,7 +12,7 @@ use Rattle.fb_graph.specs.Counts.{as_count}
 use Rattle.fb_graph.specs.Problem.{edge_at, no_edge}
 use Rattle.fb_graph.specs.Limits.{DecodingGraph, is_real_in}
 use Rattle.fb_graph.proofs.Leasts.{least_none}
-use Rattle.fb_plan.specs.Plans.{PlanTree, IsPlan, IsTree, most_units, names, join_at, node_count, goes_across, owner_of}
+use Rattle.fb_plan.specs.Plans.{PlanTree, IsPlan, IsTree, most_units, names, join_at, goes_across, owner_of}
 use Rattle.fb_plan.specs.Rules.{holds, claim_of, claims_from, is_bad_range, is_bad_node, is_unowned, is_owned_twice, owner_in, is_out_of_range, is_named, is_used_twice, tree_by, units_fault, range_fault, unowned_fault, twice_fault, child_fault, use_fault, root_fault, edge_fault, first_of_faults, plan_by}
 use Rattle.fb_plan.specs.Vertices.{is_node}
 use Rattle.fb_plan.specs.declared.parts.Claim.{Claim}

@@ -5,12 +5,12 @@ use Rattle.std.proofs.lemmas.Bool.{cases_eq, cases_lt, eq-eqb, eqb-true}
 use Rattle.std.proofs.lemmas.List.{get_or-set_same, get_or-set_other, get_or_append_left, get_or_push}
 use Rattle.fb_graph.specs.Counts.{as_count}
 use Rattle.fb_plan.specs.Plans.{most_units}
-use Rattle.fb_gen.specs.TimePlan.{IsRoundOf, IsUnitRound, IsSeamRound, no_fusion, first_round, time_fusions}
+use Rattle.fb_gen.specs.TimePlan.{IsRoundOf, no_fusion, first_round, time_fusions}
 use Rattle.fb_gen.specs.InternalSharing.{IsShared}
 use Rattle.fb_gen.specs.declared.levels.Fusion.{Fusion}
-use Rattle.fb_gen.proofs.Fusions.{count-cons, count_at, seams_once}
+use Rattle.fb_gen.proofs.Fusions.{count-cons, seams_once}
 use Rattle.fb_gen.proofs.Owners.{one_by_seam, seam_bounds}
-use Rattle.fb_gen.proofs.Rounds.{first_after_all, first_later, first_bound}
+use Rattle.fb_gen.proofs.Rounds.{first_after_all, first_later}
 
 -- enough rounds for so many units
 pub shared_anyway : (u : ℕ) → 1 ≤ u → u ≤ most_units → IsShared (2 * u) u

@@ -1,15 +1,15 @@
 -- The plan by layers is a plan of its graph: each real vertex has a node, and no edge goes across.
-use Rattle.std.proofs.Common.{ℕ, zero, suc, ◌+◌, ◌-◌, ◌*◌, ◌<◌, ◌≤◌, ◌≡◌, ◌⊎◌, inl, inr, ◌&&◌, ◌||◌, Bool, true, false, not, max, is_some, List, [], ◌∷◌, ◌++◌, length, map, get_or, All, refl, sym, ap, subst, ◌∙◌, arith, length-append}
+use Rattle.std.proofs.Common.{ℕ, zero, suc, ◌+◌, ◌-◌, ◌*◌, ◌<◌, ◌≤◌, ◌≡◌, ◌⊎◌, inl, inr, ◌&&◌, ◌||◌, Bool, true, false, not, max, is_some, List, [], ◌∷◌, ◌++◌, length, map, get_or, refl, sym, ap, subst, ◌∙◌, arith, length-append}
 use Rattle.std.specs.Prelude.{Option, Some, None, option_map}
-use Rattle.std.proofs.lemmas.Bool.{both_ways, cases_lt, cases_Bool}
+use Rattle.std.proofs.lemmas.Bool.{cases_lt, cases_Bool}
 use Rattle.std.proofs.lemmas.List.{length-map, get_or_past}
 use Rattle.std.proofs.lemmas.List.Recursion.{max_bounds, max_least}
 use Rattle.fb_graph.specs.Components.{Leads}
-use Rattle.fb_graph.specs.Problem.{edge_at, no_edge}
+use Rattle.fb_graph.specs.Problem.{edge_at}
 use Rattle.fb_graph.specs.Limits.{DecodingGraph, is_real_in}
 use Rattle.fb_graph.specs.declared.parts.Edge.{Edge}
-use Rattle.fb_plan.specs.Plans.{PlanTree, IsTree, IsPlan, most_units, node_count, is_within, are_unrelated, goes_across, owner_of}
-use Rattle.fb_gen.specs.TimePlan.{IsRoundOf, IsSeamRound, IsUnitRound, time_fusions, time_tree}
+use Rattle.fb_plan.specs.Plans.{IsTree, IsPlan, most_units, node_count, is_within, are_unrelated, goes_across, owner_of}
+use Rattle.fb_gen.specs.TimePlan.{IsRoundOf, time_fusions}
 use Rattle.fb_gen.specs.InternalSharing.{IsShared}
 use Rattle.fb_gen.specs.declared.levels.Fusion.{Fusion}
 use Rattle.fb_gen.proofs.Acceptance.{joins_length, time_tree_is_tree}

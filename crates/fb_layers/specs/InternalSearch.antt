@@ -1,5 +1,5 @@
 -- A search through a graph by a queue, one layer after another, from the least vertex that it has not reached yet.
-use Rattle.std.specs.Prelude.{ℕ, suc, ◌≡◌, ◌+◌, ◌<◌, ◌≤◌, true, is_some, if◌then◌else◌, List, [], ◌∷◌, ◌++◌, length, get_or, slice_set, count_by, Option, Some, None}
+use Rattle.std.specs.Prelude.{ℕ, suc, ◌≡◌, ◌+◌, ◌<◌, ◌≤◌, true, is_some, if◌then◌else◌, List, [], ◌∷◌, ◌++◌, length, get_or, slice_set, count_by, Option, Some}
 use Rattle.fb_graph.specs.Problem.{edge_at}
 use Rattle.fb_graph.specs.Components.{Leads}
 use Rattle.fb_graph.specs.Limits.{DecodingGraph, is_real_in}

@@ -29,7 +29,8 @@ pub fn layers(alloc: Global, graph: &Graph) -> Result<Layers, NoMemory>
 fn search_from(graph: &Graph, search: &mut Search, root: u32) -> Result<(), NoMemory>
     requires below { root < graph.now.vertices }
     requires searched { IsSearched graph.now search.old (length search.old.order) }
-    requires passed { (u : ℕ) → u < root → is_real_in graph.now u ≡ true → is_some (layer_at search.old.layers u) ≡ true }
+    requires passed { (u : ℕ) → u < root → is_real_in graph.now u ≡ true
+        → is_some (layer_at search.old.layers u) ≡ true }
     ensures searched { OnOk result (IsSearched graph.now search.new (length search.new.order)) }
     ensures passed { OnOk result ((u : ℕ) → u < root + 1 → is_real_in graph.now u ≡ true
         → is_some (layer_at search.new.layers u) ≡ true) }

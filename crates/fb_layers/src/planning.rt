@@ -18,9 +18,9 @@ use std::alloc::Global;
 
 /// Plans that are made of a graph: `Plan::by_layers`.
 pub trait ByLayers: Sized {
-    /// The plan of a graph by its layers, over all components at once. The layers are cut as a plan of a lattice by time
-    /// cuts rounds: `units` runs of layers with one layer between two of them. A plan has 1 to 4,096 units; more than
-    /// one unit need a layer each, and one for the seam between each two.
+    /// The plan of a graph by its layers, over all components at once. The layers are cut as a plan of a lattice by
+    /// time cuts rounds: `units` runs of layers with one layer between two of them. A plan has 1 to 4,096 units; more
+    /// than one unit need a layer each, and one for the seam between each two.
     fn by_layers(alloc: Global, graph: &Graph, units: u32) -> Result<Self, LayersFault>
         requires some { 1 ≤ units }
         requires limit { units ≤ most_units };

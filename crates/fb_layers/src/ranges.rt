@@ -2,7 +2,7 @@
 
 ghost use Rattle.std.specs.Prelude.{◌≡◌, ℕ, ◌+◌, ◌<◌, ◌≤◌, [], length, map, get_or, slice_set, IfOk, OnOk};
 ghost use Rattle.fb_graph.specs.Limits.{most_vertices};
-ghost use Rattle.fb_plan.specs.Plans.{IsPlan};
+ghost use Rattle.fb_plan.specs.Plans.{IsPlan, most_units};
 ghost use Rattle.fb_plan.specs.Rules.{joins_of, seams_of};
 ghost use Rattle.fb_layers.specs.Layers.{layer_at};
 ghost use Rattle.fb_layers.specs.Runs.{add_vertex};
@@ -68,7 +68,7 @@ fn no_seams(alloc: Global, fusions: &[Fusion]) -> Result<Vec<Join>, NoMemory>
 impl NodeRanges {
     /// No ranges of any node.
     fn new(alloc: Global, fusions: &[Fusion]) -> Result<NodeRanges, NoMemory>
-        requires { length fusions.now < 4096 }
+        requires { length fusions.now < most_units }
         ensures units { IfOk result (λ r. length r.units ≡ length fusions.now + 1) }
         ensures joins { IfOk result (λ r. r.joins ≡ map (λ f. (f.left, f.right)) fusions.now) }
         ensures none { IfOk result (λ r. (n : ℕ) → get_or (all_ranges r) n [] ≡ []) }
@@ -143,7 +143,7 @@ pub fn plan_of_nodes(
     nodes: &[u64],
 ) -> Result<Plan, NoMemory>
     requires count { length layers.now ≡ graph.now.vertices }
-    requires few { length fusions.now < 4096 }
+    requires few { length fusions.now < most_units }
     requires nodes { AreNodes (length fusions.now + 1 + length fusions.now) nodes.now layers.now }
     requires valid { IsPlan graph.now (tree_by_nodes fusions.now nodes.now layers.now) }
     ensures { IfOk result (λ p. p ≡ tree_by_nodes fusions.now nodes.now layers.now) }

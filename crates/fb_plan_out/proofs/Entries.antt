@@ -1,19 +1,17 @@
 -- The tokens of a list's entries: one more, and the last.
-use Rattle.std.proofs.Common.{ℕ, zero, suc, ◌+◌, ◌-◌, ◌<◌, ◌≤◌, ◌≡◌, List, [], ◌∷◌, ◌++◌, length, map, take, drop, get_or, fold, refl, sym, ap, ◌∙◌, arith, append_assoc}
+use Rattle.std.proofs.Common.{ℕ, suc, ◌+◌, ◌-◌, ◌<◌, ◌≤◌, ◌≡◌, List, [], ◌∷◌, ◌++◌, length, map, drop, get_or, sym, ap, ◌∙◌, arith, append_assoc}
 use Rattle.std.specs.Prelude.{None, cond, slice_get, unwrap_or}
 use Rattle.std.specs.List.{range_with_len}
 use Rattle.std.proofs.lemmas.Bool.{le-ltb}
 use Rattle.std.proofs.lemmas.Option.{unwrap_or-slice_get}
 use Rattle.fb_plan.specs.Plans.{PlanTree, children_of, join_at}
 use Rattle.std.proofs.Math.Seq.{drop-cons}
-use Rattle.std.proofs.lemmas.List.{drop_all, take_more}
 use Rattle.json.specs.Token.{Token}
 use Rattle.json.specs.Json.{Json}
 use Rattle.json.specs.Tree.{json_tokens, items_tokens}
 use Rattle.json.specs.Written.{Written}
 use Rattle.fb_plan_out.specs.PlanWriting.{items_from, pair_json}
 use Rattle.fb_plan_out.specs.InternalWriting.{Added, entries_after}
-use Rattle.fb_layers.specs.Runs.{add_vertex, runs}
 
 pub Added-trans : (a b c : Written) (ts us : List Token) → Added a b ts → Added b c us → Added a c (ts ++ us)
 Added-trans a b c ts us first second = record {

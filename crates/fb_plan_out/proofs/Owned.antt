@@ -1,6 +1,6 @@
 -- The ranges of a plan's nodes hold what the nodes own, and are few.
-use Rattle.std.proofs.Common.{◌≡◌, ℕ, zero, suc, ◌+◌, ◌-◌, ◌*◌, ◌<◌, ◌≤◌, ◌^◌, ◌⊎◌, inl, inr, ◌==◌, ◌&&◌, nat_lt, Bool, true, false, List, [], ◌∷◌, ◌++◌, length, map, filter, fold, get_or, count_by, sum_by, All, refl, sym, ap, subst, ◌∙◌, arith, length-append}
-use Rattle.std.specs.Prelude.{Option, Some, None, Ok}
+use Rattle.std.proofs.Common.{◌≡◌, ℕ, ◌+◌, ◌-◌, ◌<◌, ◌≤◌, ◌⊎◌, inl, inr, ◌==◌, ◌&&◌, nat_lt, Bool, true, false, List, [], ◌∷◌, ◌++◌, length, map, fold, get_or, count_by, All, refl, sym, ap, subst, ◌∙◌, arith, length-append}
+use Rattle.std.specs.Prelude.{Ok}
 use Rattle.std.specs.List.{range_with_len}
 use Rattle.std.proofs.lemmas.Bool.{cases_lt, lt-ltb, le-ltb}
 use Rattle.std.proofs.lemmas.List.{ext_get_or, get_or_append_left, get_or-append_right, get_or_past, length-map}
@@ -9,15 +9,15 @@ use Rattle.std.proofs.lemmas.List.Elements.{All-nil, All-head, All-tail}
 use Rattle.std.proofs.lemmas.List.FromFn.{get_or-map-range_with_len, length-range_with_len}
 use Rattle.fb_graph.specs.Counts.{as_count}
 use Rattle.fb_graph.specs.Parity.{is_in}
-use Rattle.fb_graph.specs.Limits.{DecodingGraph, IsGraph, most_vertices}
+use Rattle.fb_graph.specs.Limits.{DecodingGraph, IsGraph}
 use Rattle.fb_graph.proofs.Ranges.{filter-range_below, filter-range_rises, is_in-filter-range, not_in_below}
 use Rattle.fb_graph.proofs.Sets.{count_equal, distinct_from_rising}
-use Rattle.fb_plan.specs.Plans.{PlanTree, IsPlan, IsTree, join_at, node_count, owner_of}
+use Rattle.fb_plan.specs.Plans.{PlanTree, IsPlan, join_at, owner_of}
 use Rattle.fb_plan.specs.Rules.{plan_by}
 use Rattle.fb_plan.specs.Vertices.{is_node, owned_by}
 use Rattle.fb_plan_in.specs.PlanText.{Fusion, plan_of}
 use Rattle.fb_gen.proofs.Fusions.{count-cons}
-use Rattle.fb_layers.specs.Runs.{add_vertex, runs}
+use Rattle.fb_layers.specs.Runs.{add_vertex}
 use Rattle.fb_layers.specs.InternalCovers.{is_held, IsRange, HoldOwned}
 use Rattle.fb_layers.proofs.Covers.{plan_of_cover}
 use Rattle.fb_layers.proofs.Extending.{count-add_vertex, ranges-add_vertex}

@@ -1,29 +1,27 @@
 -- The text of a plan is read as the ranges and fusions that it was written from.
-use Rattle.std.proofs.Common.{◌≡◌, ℕ, zero, suc, ◌+◌, ◌*◌, ◌<◌, ◌≤◌, ◌^◌, ◌⊎◌, inl, inr, Bool, true, false, cond, max, List, [], ◌∷◌, ◌++◌, length, map, get_or, All, refl, sym, ap, subst, ◌∙◌, arith, append-nil}
-use Rattle.std.specs.Prelude.{Option, Some, None, Ok, codes, decimal, option_map, option_and_then}
+use Rattle.std.proofs.Common.{◌≡◌, ℕ, ◌+◌, ◌<◌, ◌≤◌, ◌^◌, List, [], ◌∷◌, length, map, get_or, All, refl, sym, ap, ◌∙◌, arith, append-nil}
+use Rattle.std.specs.Prelude.{Option, Some, Ok, codes, decimal, option_map, option_and_then}
 use Rattle.std.specs.List.{range_with_len}
-use Rattle.std.specs.Str.{IsUtf8, is_utf8}
-use Rattle.std.proofs.lemmas.List.Elements.{All-head, All-tail, All-map}
+use Rattle.std.specs.Str.{IsUtf8}
+use Rattle.std.proofs.lemmas.List.Elements.{All-head, All-tail}
 use Rattle.std.proofs.lemmas.Str.{is_utf8-from_IsUtf8}
-use Rattle.json.specs.Token.{Token}
 use Rattle.json.specs.Lex.{tokens}
 use Rattle.json.specs.Json as json
 use Rattle.json.specs.Tree as tree
-use Rattle.json.specs.Print.{print, ArePrintable}
+use Rattle.json.specs.Print.{ArePrintable}
 use Rattle.json.proofs.Printed.Decimals.{IsNumber-decimal}
 use Rattle.json.proofs.Printed.Trees.{ArePrintable-json_tokens, value-json_tokens}
-use Rattle.serde_json.specs.Data.{Num, unsigned, Data, number, array, object, Items, no_items, item, no_members, member}
+use Rattle.serde_json.specs.Data.{unsigned, Data, number, array, object, Items, no_items, item, no_members, member}
 use Rattle.serde_json.specs.Read.{read, max_depth, of_json, of_items}
 use Rattle.serde_json.specs.View.{items_of}
-use Rattle.serde_json.specs.Find.{get}
 use Rattle.serde_json.proofs.Numbers.{number_of-decimal}
 use Rattle.fb_plan.specs.Plans.{PlanTree, join_at}
 use Rattle.fb_plan.specs.declared.faults.PlanFault.{PlanFault}
 use Rattle.fb_plan.specs.declared.faults.PlanFault.TheVariants.{NotWhole}
 use Rattle.fb_plan.specs.declared.faults.Place.TheVariants as place
-use Rattle.fb_json.specs.JsonText.{value_of, entries_by, onto, with_option, with_result}
-use Rattle.fb_plan_in.specs.PlanText.{Fusion, fusion_of, pair_of, pairs_of, parts_of, ranges_of, entries_of}
-use Rattle.fb_plan_out.specs.PlanWriting.{items_from, pair_json, ranges_json, ranges_at, unit_json, units_json, fusion_json, fusions_json, plan_json, text_of_plan}
+use Rattle.fb_json.specs.JsonText.{value_of, entries_by}
+use Rattle.fb_plan_in.specs.PlanText.{Fusion, fusion_of, pairs_of, parts_of, ranges_of}
+use Rattle.fb_plan_out.specs.PlanWriting.{items_from, pair_json, ranges_json, ranges_at, unit_json, fusion_json, plan_json, text_of_plan}
 use Rattle.fb_plan_out.proofs.Newline.{tokens-newline}
 
 -- ---- the values that are read

@@ -1,5 +1,5 @@
 -- The text of a plan is shorter than the reader allows.
-use Rattle.std.proofs.Common.{◌≡◌, ℕ, zero, suc, ◌+◌, ◌-◌, ◌*◌, ◌<◌, ◌≤◌, ◌^◌, ◌⊎◌, inl, inr, ◌==◌, ◌&&◌, Bool, true, false, cond, List, [], ◌∷◌, ◌++◌, length, map, filter, get_or, count_by, sum_by, All, refl, sym, ap, ◌∙◌, arith, length-append}
+use Rattle.std.proofs.Common.{◌≡◌, ℕ, zero, suc, ◌+◌, ◌*◌, ◌<◌, ◌≤◌, ◌^◌, ◌⊎◌, inl, inr, ◌==◌, ◌&&◌, Bool, true, false, cond, List, [], ◌∷◌, ◌++◌, length, map, filter, get_or, sum_by, All, refl, ap, arith, length-append}
 use Rattle.std.specs.Prelude.{Option, Some, None, codes, decimal}
 use Rattle.std.specs.List.{range_with_len}
 use Rattle.std.proofs.lemmas.Bool.{cases_eq, eq-eqb, ne_eqb}
@@ -17,7 +17,6 @@ use Rattle.fb_graph.specs.Limits.{most_vertices}
 use Rattle.fb_plan.specs.Plans.{PlanTree, join_at, most_units, owner_of}
 use Rattle.fb_plan.specs.Vertices.{is_node, owned_by}
 use Rattle.fb_json.specs.JsonText.{most_bytes}
-use Rattle.fb_gen.proofs.Fusions.{count-cons}
 use Rattle.fb_plan_out.specs.PlanWriting.{items_from, pair_json, ranges_json, ranges_at, unit_json, fusion_json, plan_json, text_of_plan}
 use Rattle.fb_plan_out.proofs.Owned.{length-ranges_at}
 use Rattle.fb_plan_out.proofs.Readback.{IsSmall, IsWritable}

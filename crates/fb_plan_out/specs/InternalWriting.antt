@@ -1,5 +1,5 @@
 -- What a writer has got by a call.
-use Rattle.std.specs.Prelude.{ℕ, ◌≡◌, ◌-◌, List, ◌++◌, map, OnOk, Result}
+use Rattle.std.specs.Prelude.{ℕ, ◌≡◌, ◌-◌, List, ◌++◌, map}
 use Rattle.std.specs.List.{range_with_len}
 use Rattle.json.specs.Token.{Token}
 use Rattle.json.specs.Json.{Json}

@@ -1,7 +1,7 @@
 -- The text of a plan: one JSON value (RFC 8259) without spaces, and a newline.
 use Rattle.std.specs.Prelude.{ℕ, ◌+◌, List, [], ◌∷◌, ◌++◌, length, map, codes, decimal}
 use Rattle.std.specs.List.{range_with_len}
-use Rattle.json.specs.Json.{Json, number, array, object, Items, no_items, item, Members, no_members, member}
+use Rattle.json.specs.Json.{Json, number, array, object, Items, no_items, item, no_members, member}
 use Rattle.json.specs.Tree.{json_tokens}
 use Rattle.json.specs.Print.{print}
 use Rattle.fb_plan.specs.Plans.{PlanTree, join_at}

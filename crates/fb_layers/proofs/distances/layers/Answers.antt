@@ -1,4 +1,4 @@
-use Rattle.std.proofs.Common.{◌≤◌, ◌≡◌, ◌∙◌, length, subst, sym, arith}
+use Rattle.std.proofs.Common.{◌≤◌, ◌∙◌, length, subst, sym, arith}
 use Rattle.fb_layers.specs.Layers.{AreLayers, height_of}
 use Rattle.fb_layers.proofs.Planned.{height_bound}
 use Rattle.fb_layers.proofs.Searching.{layers_found, length-order, real_below}

@@ -1,5 +1,5 @@
 use Rattle.std.proofs.Common.{◌∙◌, sym}
-use Rattle.fb_layers.proofs.Searching.{IsReached, edge_reached}
+use Rattle.fb_layers.proofs.Searching.{edge_reached}
 use Rattle.fb_layers.proofs.distances.reach_over.Goals as goal
 
 pub returns-clause-searched : goal.returns-clause-searched

@@ -1,4 +1,4 @@
-use Rattle.std.proofs.Common.{◌∙◌, length, ap, arith}
+use Rattle.std.proofs.Common.{◌∙◌, length, ap}
 use Rattle.fb_graph.specs.Adjacency.{edges_at}
 use Rattle.fb_layers.specs.declared.search.Reached.{Reached}
 use Rattle.fb_layers.proofs.Searching.{around_all, around_edge, around_more}

@@ -1,6 +1,6 @@
-use Rattle.std.proofs.Common.{◌≡◌, ◌∙◌, true, is_some, length, sym}
+use Rattle.std.proofs.Common.{◌≡◌, ◌∙◌, true, is_some, sym}
 use Rattle.fb_layers.specs.Layers.{layer_at}
-use Rattle.fb_layers.specs.InternalSearch.{Grows, IsSearched}
+use Rattle.fb_layers.specs.InternalSearch.{Grows}
 use Rattle.fb_layers.proofs.Searching.{Grows-refl, Grows-trans, passed_more, root_reached, still_reached}
 use Rattle.fb_layers.proofs.distances.search_from.Goals as goal
 

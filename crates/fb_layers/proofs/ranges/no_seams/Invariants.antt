@@ -1,4 +1,4 @@
-use Rattle.std.proofs.Common.{ℕ, ◌≡◌, [], length, map, take, get_or}
+use Rattle.std.proofs.Common.{ℕ, ◌≡◌, [], map, take, get_or}
 use Rattle.fb_plan.specs.Rules.{joins_of, seams_of}
 use Rattle.fb_layers.proofs.ranges.no_seams.Given as goal
 

@@ -1,8 +1,6 @@
-use Rattle.std.proofs.Common.{◌≡◌, ◌∙◌, ◌+◌, ◌++◌, Ok, length, map, subst, sym, arith}
-use Rattle.std.proofs.lemmas.List.{length-map}
-use Rattle.fb_gen.specs.declared.levels.Fusion.{Fusion}
-use Rattle.fb_plan.specs.Rules.{plan_by, plan_from}
-use Rattle.fb_layers.specs.InternalCovers.{HoldOwned, Ranges, all_ranges, owners_by, tree_by_nodes}
+use Rattle.std.proofs.Common.{◌≡◌, ◌∙◌, Ok, map}
+use Rattle.fb_plan.specs.Rules.{plan_from}
+use Rattle.fb_layers.specs.InternalCovers.{tree_by_nodes}
 use Rattle.fb_layers.proofs.Covers.{cover_of_ranges}
 use Rattle.fb_layers.proofs.ranges.plan_of_nodes.Goals as goal
 

@@ -1,4 +1,4 @@
-use Rattle.std.proofs.Common.{◌≡◌, ◌+◌, ◌<◌, ◌∙◌, length, ap, subst, sym, arith}
+use Rattle.std.proofs.Common.{◌≡◌, ◌+◌, ◌∙◌, subst, sym, arith}
 use Rattle.std.proofs.lemmas.List.{get_or_default, length_push}
 use Rattle.fb_gen.specs.TimePlan.{first_round}
 use Rattle.fb_layers.proofs.Layering.{IsAt, next_unit, rounds_more, same_unit, seam_round, unit_round}

@@ -1,4 +1,4 @@
-use Rattle.std.proofs.Common.{ℕ, ◌<◌, ◌≡◌, ◌≤◌, ◌⊎◌, length, get_or}
+use Rattle.std.proofs.Common.{ℕ, ◌<◌, ◌≡◌, length, get_or}
 use Rattle.fb_gen.specs.TimePlan.{IsRoundOf}
 use Rattle.fb_layers.proofs.Layering.{IsAt}
 use Rattle.fb_layers.proofs.rounds.layer_nodes.Given as goal

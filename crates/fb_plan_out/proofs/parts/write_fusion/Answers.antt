@@ -2,7 +2,7 @@ use Rattle.std.proofs.Common.{ℕ, ◌≡◌, ◌+◌, ◌∙◌, ap, subst}
 use Rattle.std.specs.Prelude.{codes}
 use Rattle.json.specs.Tree.{json_tokens}
 use Rattle.fb_plan.specs.Plans.{join_at}
-use Rattle.fb_plan_out.specs.PlanWriting.{pair_json, ranges_at, ranges_json, unit_json}
+use Rattle.fb_plan_out.specs.PlanWriting.{pair_json, unit_json}
 use Rattle.fb_plan_out.specs.InternalWriting.{Added}
 use Rattle.fb_plan_out.proofs.Entries.{fusion_children, object_of_two}
 use Rattle.fb_plan_out.proofs.parts.write_fusion.Goals as goal

@@ -3,7 +3,6 @@ use Rattle.std.proofs.Math.Seq.{map-set_same}
 use Rattle.std.proofs.lemmas.List.{length-map}
 use Rattle.fb_plan.specs.Rules.{seams_of}
 use Rattle.fb_plan.specs.declared.parts.Join.{Join}
-use Rattle.fb_layers.specs.InternalCovers.{all_ranges}
 use Rattle.fb_layers.proofs.Filling.{seam_added, unit_added}
 use Rattle.fb_layers.proofs.ranges.NodeRanges.add.Goals as goal
 
