@@ -6,3 +6,4 @@ pub mod Covers
 pub mod Layering
 pub mod Planned
 pub mod Filling
+pub mod Uniqueness

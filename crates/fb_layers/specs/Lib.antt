@@ -3,3 +3,4 @@ pub mod InternalSearch
 pub mod PlanByLayers
 pub mod Runs
 pub mod InternalCovers
+pub mod Laws

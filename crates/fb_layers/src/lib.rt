@@ -5,6 +5,7 @@
 pub mod depths;
 pub mod distances;
 pub mod faults;
+pub mod laws;
 pub mod planning;
 mod ranges;
 mod rounds;
@@ -14,5 +15,6 @@ mod search;
 pub use depths::Layers;
 pub use distances::layers;
 pub use faults::LayersFault;
+pub use laws::{one_layer, one_layering, planned_or_too_few};
 pub use planning::ByLayers;
 pub use runs::add_vertex;

@@ -1,0 +1,18 @@
+//! What follows from the definitions alone. A function does nothing: its clause is the law.
+
+ghost use Rattle.fb_layers.specs.Laws.{OneLayer, OneLayering, PlannedOrTooFew};
+
+/// A vertex has one layer.
+pub fn one_layer()
+    ensures { OneLayer }
+{}
+
+/// A graph has one list of layers.
+pub fn one_layering()
+    ensures { OneLayering }
+{}
+
+/// A graph has a plan by layers for so many units, or its layers are too few for them, and never both.
+pub fn planned_or_too_few()
+    ensures { PlannedOrTooFew }
+{}
