@@ -1,5 +1,5 @@
 -- Two parts beside one another, the right one's nodes under new names: their matchings are one.
-use Rattle.std.proofs.Common.{ℕ, ◌≡◌, ◌==◌, ◌||◌, ◌⊎◌, inl, inr, true, false, List, [], ◌∷◌, ◌++◌, map, Option, Some, None, option_map, refl, sym, ap, ◌∙◌, subst, option_to_list}
+use Rattle.std.proofs.Common.{ℕ, ◌≡◌, ◌==◌, ◌||◌, ◌⊎◌, inl, inr, true, false, List, [], ◌∷◌, ◌++◌, map, Option, Some, None, is_some, option_map, refl, sym, ap, ◌∙◌, subst, option_to_list}
 use Rattle.std.proofs.lemmas.Bool.{both_ways, false_from_ne_true, or_cases, or_from, or_left, or_right}
 use Rattle.std.proofs.lemmas.Grind.{flat_map-append}
 use Rattle.std.proofs.lemmas.List.{append-nil, map-append}
@@ -25,7 +25,9 @@ use Rattle.fb_laws.proofs.FusedParts.{link_ends_away, parts_turned}
 use Rattle.fb_half.specs.declared.matches.Match.{Match}
 use Rattle.fb_half.specs.Matchings.{IsMatchOf, IsMatchingOf, MatchingValue, listed_names, matched_names, names_of}
 use Rattle.fb_half.specs.Merged.{renamed_match, renamed_second}
+use Rattle.fb_half.specs.Seams.{far_end}
 use Rattle.fb_half.specs.Translations.{link_by}
+use Rattle.fb_half.proofs.FarEnds.{AreRealBy, far_is}
 use Rattle.fb_graph.proofs.OddLabels.{member_of_map}
 use Rattle.fb_links.proofs.MovedLinks.{Table}
 
@@ -106,6 +108,32 @@ module _ (p q whole : Problem) (left right : List Node) (f : ℕ → ℕ) (parts
       (v, inl (cover_right l.from a from, to), unreal v (ap p.is_real (sym to) ∙ (link_ends_away q p whole l turned is).1) real)
   leads_right l a None is (v, inr (to, from), real) =
       (v, inr (cover_right l.to a to, from), unreal v (ap p.is_real (sym from) ∙ (link_ends_away q p whole l turned is).0) real)
+
+  module _ (held : AreRealBy middle.is_real (left ++ others)) where
+    -- a match to the boundary ends there where it did
+    pub far_left : (l : Link) (a : ℕ) (second : Option ℕ) → second ≡ None → IsLinkOf p l → IsMatchOf p left l a second
+        → far_end middle.is_real l ≡ far_end p.is_real l
+    far_left l a (Some b) none is at = absurd (let clash : Some b ≡ None = none in cc)
+    far_left l a None none is (v, inl (from, to), real) =
+        far_is middle.is_real (left ++ others) l a v held (inl (cover_left l.from a from, to))
+        (unreal v real (ap q.is_real (sym to) ∙ (link_ends_away p q whole l parts is).1))
+        ∙ sym (far_is p.is_real left l a v (λ u k c. one.dual.real u (ap is_some c)) (inl (from, to)) real)
+    far_left l a None none is (v, inr (to, from), real) =
+        far_is middle.is_real (left ++ others) l a v held (inr (cover_left l.to a to, from))
+        (unreal v real (ap q.is_real (sym from) ∙ (link_ends_away p q whole l parts is).0))
+        ∙ sym (far_is p.is_real left l a v (λ u k c. one.dual.real u (ap is_some c)) (inr (to, from)) real)
+
+    pub far_right : (l : Link) (a : ℕ) (second : Option ℕ) → second ≡ None → IsLinkOf q l → IsMatchOf q right l a second
+        → far_end middle.is_real l ≡ far_end q.is_real l
+    far_right l a (Some b) none is at = absurd (let clash : Some b ≡ None = none in cc)
+    far_right l a None none is (v, inl (from, to), real) =
+        far_is middle.is_real (left ++ others) l (f a) v held (inl (cover_right l.from a from, to))
+        (unreal v (ap p.is_real (sym to) ∙ (link_ends_away q p whole l turned is).1) real)
+        ∙ sym (far_is q.is_real right l a v (λ u k c. two.dual.real u (ap is_some c)) (inl (from, to)) real)
+    far_right l a None none is (v, inr (to, from), real) =
+        far_is middle.is_real (left ++ others) l (f a) v held (inr (cover_right l.to a to, from))
+        (unreal v (ap p.is_real (sym from) ∙ (link_ends_away q p whole l turned is).0) real)
+        ∙ sym (far_is q.is_real right l a v (λ u k c. two.dual.real u (ap is_some c)) (inr (to, from)) real)
 
   module _ (first second table : Table) (g : ℕ → ℕ) (m n : MatchingValue) (matched : m.unmatched ≡ []) (others_matched : n.unmatched ≡ [])
       (here : IsMatchingOf p left first m []) (there : IsMatchingOf q right second n []) where

@@ -1,14 +1,15 @@
 -- The matches and the links of a fusion's part as it begins, by those of the children's parts.
-use Rattle.std.proofs.Common.{ℕ, ◌≡◌, ◌&&◌, ◌||◌, ◌⊎◌, inl, inr, not, Bool, true, false, cond, List, [], ◌∷◌, ◌++◌, map, flat_map, Option, Some, None, refl, sym, ap, ◌∙◌, subst}
+use Rattle.std.proofs.Common.{ℕ, ◌≡◌, ◌&&◌, ◌||◌, ◌⊎◌, inl, inr, not, Bool, true, false, cond, List, [], ◌∷◌, ◌++◌, map, flat_map, Option, Some, None, is_some, refl, sym, ap, ◌∙◌, subst}
 use Rattle.std.specs.List.{filter}
 use Rattle.std.specs.List.Sorted.{IsPermutation}
-use Rattle.std.proofs.lemmas.Bool.{false≢true, or_cases, or_left, or_right}
+use Rattle.std.proofs.lemmas.Bool.{both_ways, false_from_ne_true, false≢true, or_cases, or_left, or_right}
 use Rattle.std.proofs.lemmas.List.{map-append}
 use Rattle.std.proofs.lemmas.List.Elements.{filter-append}
 use Rattle.std.proofs.lemmas.List.Sorted.{IsPermutation-map, IsPermutation-sym}
 use Rattle.fb_graph.specs.Parity.{is_in}
 use Rattle.fb_graph.specs.Limits.{IsWithinLimits, no_shot}
-use Rattle.fb_graph.proofs.Among.{IsAmong}
+use Rattle.fb_graph.specs.Problem.{Problem}
+use Rattle.fb_graph.proofs.Among.{IsAmong, All_among}
 use Rattle.fb_graph.proofs.Members.{is_in-append, is_in-map}
 use Rattle.fb_graph.proofs.Sets.{is_in-cases}
 use Rattle.fb_laws.proofs.OpenedBlossoms.{same_permuted}
@@ -17,15 +18,17 @@ use Rattle.fb_links.specs.Merged.{AreMerged}
 use Rattle.fb_links.specs.Table.{link_at}
 use Rattle.fb_blossoms.specs.Merged as merged
 use Rattle.fb_half.specs.declared.matches.Match.{Match}
-use Rattle.fb_half.specs.InternalSeams.{IsBeside, IsOpened}
-use Rattle.fb_half.specs.Matchings.{match_links}
-use Rattle.fb_half.specs.Merged.{IsMerged, ends_at_seam, freed_in, is_alone, leads_to_seam, other_matches, renamed_match, renamed_second, seam_matches, staying_links}
-use Rattle.fb_half.specs.Parts.{IsPart, PartValue, kept_links}
+use Rattle.fb_half.specs.InternalSeams.{IsBeside, IsOpened, ends_at_seam, meets_seam, met_matches, met_nodes}
+use Rattle.fb_half.specs.Matchings.{IsMatchOf, match_links}
+use Rattle.fb_half.specs.Merged.{IsMerged, freed_in, is_alone, is_freed, is_owned_by, other_matches, renamed_match, renamed_second, seam_matches, staying_links}
+use Rattle.fb_half.specs.Parts.{IsPart, PartValue, kept_links, problem_in, shot_of}
+use Rattle.fb_half.specs.Seams.{far_end}
 use Rattle.fb_half.specs.Translations.{link_by, ring_links}
 use Rattle.fb_half.proofs.BesideLinks.{link_left, link_right, links_renamed, moved, stays}
+use Rattle.fb_half.proofs.FarEnds.{seam_far}
 use Rattle.fb_half.proofs.FlatPermutations.{flat_permuted}
 use Rattle.fb_half.proofs.FreedMatches.{filter_parts, firsts, link_in}
-use Rattle.fb_half.proofs.MergedHalves.{before, link, live_left, live_right, name, rings_are}
+use Rattle.fb_half.proofs.MergedHalves.{before, link, live_left, live_right, name, rings_are, seam_unreal}
 use Rattle.fb_half.proofs.SeamedLinks.{link_stays, stays_off}
 use Rattle.fb_half.proofs.AddedSingles.{Store}
 use Rattle.fb_links.proofs.MovedLinks.{Table}
@@ -120,40 +123,63 @@ module _ (left right : PartValue) (n : ℕ) (limits : IsWithinLimits (problem_at
   new_link = link left right n limits children one two matched also links names table store tables stores
 
   abbrev pub leads : Match → Bool
-  leads = leads_to_seam left.job.plan n table
+  leads = meets_seam left.job.plan n table
 
-  leads_left : (e : Match) → IsAmong e left.matching.matches → leads e ≡ leads_to_seam left.job.plan n left.links e
+  -- the matches that stay
+  abbrev pub staying : List Match
+  staying = filter (λ m. not (leads m)) w.matching.matches
+
+  abbrev pub owned : ℕ → Bool
+  owned = is_owned_by left.job.plan n
+
+  off_seam : (u : ℕ) → ((problem_in left).is_real u || (problem_at left.job.graph left.job.plan right.node (shot_of left)).is_real u) ≡ true → owned u ≡ false
+  off_seam u h =
+      false_from_ne_true (owned u)
+      (λ on. both_ways ((problem_in left).is_real u || (problem_at left.job.graph left.job.plan right.node (shot_of left)).is_real u)
+      (seam_unreal left right n limits children one two matched also u on) h)
+
+  leads_left : (e : Match) → IsAmong e left.matching.matches → leads e ≡ is_freed left n e
   leads_left e a =
       ap (λ l. is_alone e.second && ends_at_seam left.job.plan n l)
       (link_left left.links right.links table links tables e.link
       (live_left left right n limits children one two matched also links names table store tables stores e a))
+      ∙ seam_far (problem_in left) left.nodes owned (link_by left.links e.link) e.first e.second
+      (λ u m c. one.state.work.nest.dual.real u (ap is_some c))
+      (λ u h. off_seam u (or_left ((problem_in left).is_real u) ((problem_at left.job.graph left.job.plan right.node (shot_of left)).is_real u) h))
+      (All_among (λ x. IsMatchOf (problem_in left) left.nodes (link_by left.links x.link) x.first x.second) left.matching.matches one.matching.connects e a)
 
-  leads_right : (e : Match) → IsAmong e right.matching.matches → leads (renamed_match new_link new_name e) ≡ leads_to_seam right.job.plan n right.links e
+  leads_right : (e : Match) → IsAmong e right.matching.matches → leads (renamed_match new_link new_name e) ≡ is_freed right n e
   leads_right e a =
+      let q : Problem = problem_at left.job.graph left.job.plan right.node (shot_of left) in
       ap (λ c. c && ends_at_seam left.job.plan n (link_by table (new_link e.link))) (alone_renamed new_name e.second)
       ∙ (ap (λ l. is_alone e.second && ends_at_seam left.job.plan n l)
       (link_right left.links right.links table links tables e.link
       (live_right left right n limits children one two matched also links names table store tables stores e a))
-      ∙ ap (λ j. is_alone e.second && ends_at_seam j.plan n (link_by right.links e.link)) (sym same_job))
+      ∙ (seam_far q right.nodes owned (link_by right.links e.link) e.first e.second
+      (λ u m c. two.state.work.nest.dual.real u (ap is_some c))
+      (λ u h. off_seam u (or_right ((problem_in left).is_real u) (q.is_real u) h))
+      (All_among (λ x. IsMatchOf q right.nodes (link_by right.links x.link) x.first x.second) right.matching.matches two.matching.connects e a)
+      ∙ ap (λ j. is_alone e.second && is_owned_by j.plan n (far_end (problem_at j.graph j.plan right.node no_shot).is_real (link_by right.links e.link)))
+      (sym same_job)))
 
-  pub seam_split : seam_matches w n ≡ seam_matches left n ++ map (renamed_match new_link new_name) (seam_matches right n)
+  pub seam_split : met_matches w ≡ seam_matches left n ++ map (renamed_match new_link new_name) (seam_matches right n)
   seam_split =
       filter-append leads left.matching.matches (map (renamed_match new_link new_name) right.matching.matches)
       ∙ (ap (λ l. l ++ filter leads (map (renamed_match new_link new_name) right.matching.matches))
-      (filter_same leads (leads_to_seam left.job.plan n left.links) left.matching.matches leads_left)
+      (filter_same leads (is_freed left n) left.matching.matches leads_left)
       ∙ ap (λ l. seam_matches left n ++ l)
-      (filter_changed (renamed_match new_link new_name) leads (leads_to_seam right.job.plan n right.links) right.matching.matches leads_right))
+      (filter_changed (renamed_match new_link new_name) leads (is_freed right n) right.matching.matches leads_right))
 
-  pub other_split : other_matches w n ≡ other_matches left n ++ map (renamed_match new_link new_name) (other_matches right n)
+  pub other_split : staying ≡ other_matches left n ++ map (renamed_match new_link new_name) (other_matches right n)
   other_split =
       filter-append (λ m. not (leads m)) left.matching.matches (map (renamed_match new_link new_name) right.matching.matches)
       ∙ (ap (λ l. l ++ filter (λ m. not (leads m)) (map (renamed_match new_link new_name) right.matching.matches))
-      (filter_same (λ m. not (leads m)) (λ m. not (leads_to_seam left.job.plan n left.links m)) left.matching.matches (λ e a. ap not (leads_left e a)))
+      (filter_same (λ m. not (leads m)) (λ m. not (is_freed left n m)) left.matching.matches (λ e a. ap not (leads_left e a)))
       ∙ ap (λ l. other_matches left n ++ l)
-      (filter_changed (renamed_match new_link new_name) (λ m. not (leads m)) (λ m. not (leads_to_seam right.job.plan n right.links m)) right.matching.matches
+      (filter_changed (renamed_match new_link new_name) (λ m. not (leads m)) (λ m. not (is_freed right n m)) right.matching.matches
       (λ e a. ap not (leads_right e a))))
 
-  pub freed_split : freed_in w n ≡ freed_in left n ++ map new_name (freed_in right n)
+  pub freed_split : met_nodes w ≡ freed_in left n ++ map new_name (freed_in right n)
   freed_split =
       ap firsts seam_split
       ∙ (map-append (λ m. m.first) (seam_matches left n) (map (renamed_match new_link new_name) (seam_matches right n))
@@ -161,14 +187,14 @@ module _ (left right : PartValue) (n : ℕ) (limits : IsWithinLimits (problem_at
 
   module _ (own : List ℕ) (after : PartValue) (beside_is : IsBeside w) (opened : IsOpened own w after) where
     -- the matches that stay are those that lead elsewhere
-    others_are : IsPermutation (other_matches w n) after.matching.matches
+    others_are : IsPermutation (staying) after.matching.matches
     others_are =
-        subst (IsPermutation (other_matches w n))
-        (filter-append (λ m. not (leads m)) (seam_matches w n) after.matching.matches
+        subst (IsPermutation (staying))
+        (filter-append (λ m. not (leads m)) (met_matches w) after.matching.matches
         ∙ (ap (λ l. l ++ filter (λ m. not (leads m)) after.matching.matches)
-        (filter_none (λ m. not (leads m)) (seam_matches w n) (λ e a. ap not (filter_parts leads w.matching.matches e a).1))
+        (filter_none (λ m. not (leads m)) (met_matches w) (λ e a. ap not (filter_parts leads w.matching.matches e a).1))
         ∙ filter_all (λ m. not (leads m)) after.matching.matches (λ e a. ap not (stays_off own w after beside_is opened e a))))
-        (filter_permuted (λ m. not (leads m)) w.matching.matches (seam_matches w n ++ after.matching.matches) opened.freed.matches)
+        (filter_permuted (λ m. not (leads m)) w.matching.matches (met_matches w ++ after.matching.matches) opened.freed.matches)
 
     pub matches_are : IsPermutation after.matching.matches (other_matches left n ++ map (renamed_match new_link new_name) (other_matches right n))
     matches_are = IsPermutation-sym _ _ (subst (λ l. IsPermutation l after.matching.matches) other_split others_are)
@@ -218,7 +244,7 @@ module _ (left right : PartValue) (n : ℕ) (limits : IsWithinLimits (problem_at
         kept (inl h) =
             is_in-append (match_links left.matching.matches) (ring_links left.nodes left.store) id
             ∙ or_left (is_in (match_links left.matching.matches) id) (is_in (ring_links left.nodes left.store) id)
-            (link_kept (λ m. not (leads_to_seam left.job.plan n left.links m)) left.matching.matches id h)
+            (link_kept (λ m. not (is_freed left n m)) left.matching.matches id h)
         kept (inr h) =
             is_in-append (match_links left.matching.matches) (ring_links left.nodes left.store) id
             ∙ or_right (is_in (match_links left.matching.matches) id) (is_in (ring_links left.nodes left.store) id) h
@@ -249,7 +275,7 @@ module _ (left right : PartValue) (n : ℕ) (limits : IsWithinLimits (problem_at
         kept (inl h) =
             is_in-append (match_links right.matching.matches) (ring_links right.nodes right.store) id
             ∙ or_left (is_in (match_links right.matching.matches) id) (is_in (ring_links right.nodes right.store) id)
-            (link_kept (λ m. not (leads_to_seam right.job.plan n right.links m)) right.matching.matches id h)
+            (link_kept (λ m. not (is_freed right n m)) right.matching.matches id h)
         kept (inr h) =
             is_in-append (match_links right.matching.matches) (ring_links right.nodes right.store) id
             ∙ or_right (is_in (match_links right.matching.matches) id) (is_in (ring_links right.nodes right.store) id) h

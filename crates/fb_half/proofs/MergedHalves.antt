@@ -127,7 +127,7 @@ module _ (left right : PartValue) (n : ℕ) (limits : IsWithinLimits (problem_at
   pub whole_limits : IsWithinLimits whole
   whole_limits = record { vertices = limits.vertices; edges = limits.edges; each_edge = limits.each_edge; real_below = limits.real_below }
 
-  middle_real : (v : ℕ) → middle.is_real v ≡ true → whole.is_real v ≡ true
+  pub middle_real : (v : ℕ) → middle.is_real v ≡ true → whole.is_real v ≡ true
   middle_real v h = step (or_cases (p.is_real v) (q.is_real v) h)
     where
       step : (p.is_real v ≡ true) ⊎ (q.is_real v ≡ true) → whole.is_real v ≡ true
@@ -265,6 +265,8 @@ module _ (left right : PartValue) (n : ℕ) (limits : IsWithinLimits (problem_at
       problem = middle;
       edges = refl;
       apart = seam_unreal;
+      part = middle_real;
+      covered = real_covered;
       nest = nest_beside;
       agreed = agreed_beside left.nodes right.nodes left.store right.store store links names one.agreed two.agreed stores;
       links = links_beside left.links right.links table links tables (kept_links left) (kept_links right) (kept_links before) one.links.live two.links.live

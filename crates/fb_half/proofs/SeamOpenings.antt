@@ -24,9 +24,9 @@ use Rattle.fb_links.specs.Table.{IsLink, is_live as is_link, link_at, walk_at}
 use Rattle.fb_links.specs.Walks.{end_from, end_of, start_of}
 use Rattle.fb_blossoms.specs.Nodes as blossoms
 use Rattle.fb_half.specs.declared.matches.Match.{Match}
-use Rattle.fb_half.specs.InternalSeams.{AddsSingles, IsBeside, IsFreed, IsOpened}
+use Rattle.fb_half.specs.InternalSeams.{AddsSingles, AreBesideListed, IsBeside, IsFreed, IsOpened, ends_at_seam, meets_seam, met_matches, met_nodes}
 use Rattle.fb_half.specs.Matchings.{MatchingValue, listed_names, match_links, matched_names, names_of}
-use Rattle.fb_half.specs.Merged.{IsPlanned, freed_in, is_owned_by, leads_to_seam, seam_defects, seam_matches}
+use Rattle.fb_half.specs.Merged.{IsPlanned, is_alone, is_owned_by, seam_defects}
 use Rattle.fb_half.specs.Parts.{AreAgreed, PartValue, problem_in, shot_of}
 use Rattle.fb_half.specs.Translations.{children_at, link_by, ring_links}
 use Rattle.fb_half.proofs.BegunParts.{kept_real, shot_below}
@@ -90,21 +90,21 @@ seam_read t plan n l shot own read same same_shot is read_is =
 -- the matches to the seam forgotten, then its defects added
 pub seam_opened : {U E : Type 0} (r : Result U E) (before : PartValue) (mid m : MatchingValue) (links : Table) (nodes : List Node)
     (store : List (Option blossoms.Node)) (plan : PlanTree) (read : List ℕ) → plan ≡ before.job.plan → read ≡ seam_defects before.job before.slot before.node
-    → IsFreed (filter (leads_to_seam plan before.node before.links) before.matching.matches) before.matching mid before.links links
+    → IsFreed (filter (meets_seam plan before.node before.links) before.matching.matches) before.matching mid before.links links
     → OnOk r (AddsSingles (drop (length mid.unmatched) m.unmatched) read before.nodes nodes before.store store mid m)
-    → OnOk r (IsOpened (drop (length (before.matching.unmatched ++ freed_in before before.node)) m.unmatched) before
+    → OnOk r (IsOpened (drop (length (before.matching.unmatched ++ met_nodes before)) m.unmatched) before
     (record { job = before.job; slot = before.slot; node = before.node; nodes = nodes; links = links; store = store; matching = m }))
 seam_opened (Err e) before mid m links nodes store plan read same is freed added = tt
 seam_opened (Ok x) before mid m links nodes store plan read same is freed added =
-    let taken = subst (λ t. IsFreed (filter (leads_to_seam t before.node before.links) before.matching.matches) before.matching mid before.links links) same freed in
-    let after : MatchingValue = record { matches = m.matches; unmatched = before.matching.unmatched ++ freed_in before before.node } in
+    let taken = subst (λ t. IsFreed (filter (meets_seam t before.node before.links) before.matching.matches) before.matching mid before.links links) same freed in
+    let after : MatchingValue = record { matches = m.matches; unmatched = before.matching.unmatched ++ met_nodes before } in
     let mid_is : mid ≡ after =
     ap (λ ms. record { matches = ms; unmatched = mid.unmatched }) (sym (ap (λ n. n.matches) added.matching))
     ∙ ap (λ names. record { matches = m.matches; unmatched = names }) taken.unmatched in record {
       job = refl;
       slot = refl;
       node = refl;
-      freed = subst (λ n. IsFreed (seam_matches before before.node) before.matching n before.links links) mid_is taken;
+      freed = subst (λ n. IsFreed (met_matches before) before.matching n before.links links) mid_is taken;
       singles_added =
           subst (λ n. AddsSingles (drop (length n.unmatched) m.unmatched) (seam_defects before.job before.slot before.node) before.nodes nodes before.store store n m) mid_is
           (subst (λ l. AddsSingles (drop (length mid.unmatched) m.unmatched) l before.nodes nodes before.store store mid m) is added);

@@ -23,9 +23,9 @@ use Rattle.fb_links.specs.Table.{is_live as is_link, link_at}
 use Rattle.fb_blossoms.specs.Nodes as blossoms
 use Rattle.fb_half.specs.declared.matches.Match.{Match}
 use Rattle.fb_half.specs.Beginnings.{leaves_by}
-use Rattle.fb_half.specs.InternalSeams.{IsBeside, IsFreed, IsOpened, AddsSingles, freed_matching}
+use Rattle.fb_half.specs.InternalSeams.{AddsSingles, IsBeside, IsFreed, IsOpened, freed_matching, meets_seam, met_matches}
 use Rattle.fb_half.specs.Matchings.{listed_names, match_links, matched_names, names_of}
-use Rattle.fb_half.specs.Merged.{leads_to_seam, seam_defects, seam_matches}
+use Rattle.fb_half.specs.Merged.{seam_defects}
 use Rattle.fb_half.specs.Parts.{AreAgreed, AreLinksOf, AreStepsOf, PartValue, kept_links, problem_in}
 use Rattle.fb_half.specs.Translations.{children_at, cycles_by, link_by, link_of, ring_at, ring_links}
 use Rattle.fb_half.proofs.Begun.{held_in, leaf_cycle, leaf_live, live_leaves}
@@ -70,13 +70,13 @@ in_rings nodes store x id live within =
 
 module _ (own : List ℕ) (w after : PartValue) (b : IsBeside w) (opened : IsOpened own w after) where
   abbrev pub taken : List Match
-  taken = seam_matches w w.node
+  taken = met_matches w
 
   abbrev pub defects : List ℕ
   defects = seam_defects w.job w.slot w.node
 
   abbrev pub leads : Match → Bool
-  leads = leads_to_seam w.job.plan w.node w.links
+  leads = meets_seam w.job.plan w.node w.links
 
   freed : IsFreed taken w.matching (freed_matching w after) w.links after.links
   freed = opened.freed

@@ -25,9 +25,9 @@ use Rattle.fb_laws.proofs.OpenedBlossoms.{distinct_permuted, same_permuted}
 use Rattle.fb_laws.proofs.SearchTrees.{cover_set, leads_from}
 use Rattle.fb_half.specs.declared.matches.Match.{Match}
 use Rattle.fb_half.specs.Beginnings.{leaves_by}
-use Rattle.fb_half.specs.InternalSeams.{IsBeside, IsFreed, IsOpened, AddsSingles, freed_matching}
+use Rattle.fb_half.specs.InternalSeams.{AddsSingles, IsBeside, IsFreed, IsOpened, ends_at_seam, freed_matching, meets_seam, met_matches}
 use Rattle.fb_half.specs.Matchings.{IsMatchOf, IsMatchingOf, MatchingValue, listed_names, match_links, matched_names, names_of}
-use Rattle.fb_half.specs.Merged.{ends_at_seam, is_alone, is_owned_by, leads_to_seam, seam_defects, seam_matches}
+use Rattle.fb_half.specs.Merged.{is_alone, is_owned_by, seam_defects}
 use Rattle.fb_half.specs.Parts.{PartValue, problem_in}
 use Rattle.fb_half.specs.Translations.{link_by, link_of}
 use Rattle.fb_half.proofs.Begun.{outer_leaves}
@@ -73,13 +73,13 @@ seam_end seam l = if seam l.from then l.from else l.to
 
 module _ (own : List ℕ) (w after : PartValue) (b : IsBeside w) (opened : IsOpened own w after) where
   abbrev pub taken : List Match
-  taken = seam_matches w w.node
+  taken = met_matches w
 
   abbrev pub defects : List ℕ
   defects = seam_defects w.job w.slot w.node
 
   abbrev pub leads : Match → Bool
-  leads = leads_to_seam w.job.plan w.node w.links
+  leads = meets_seam w.job.plan w.node w.links
 
   abbrev pub owned : ℕ → Bool
   owned = is_owned_by w.job.plan w.node
@@ -163,11 +163,11 @@ module _ (own : List ℕ) (w after : PartValue) (b : IsBeside w) (opened : IsOpe
   pub link_is : (e : Match) → IsAmong e after.matching.matches → link_by after.links e.link ≡ link_by w.links e.link
   link_is e a = ap (λ o. link_of (unwrap_or o [])) (match_stays own w after b opened e a)
 
-  was_match : (e : Match) → IsAmong e w.matching.matches → IsMatchOf b.problem w.nodes (link_by w.links e.link) e.first e.second
+  pub was_match : (e : Match) → IsAmong e w.matching.matches → IsMatchOf b.problem w.nodes (link_by w.links e.link) e.first e.second
   was_match = All_among (λ x. IsMatchOf b.problem w.nodes (link_by w.links x.link) x.first x.second) w.matching.matches b.matching.connects
 
   module _ (covered : (v : ℕ) → (problem_in w).is_real v ≡ true → (b.problem.is_real v ≡ true) ⊎ (owned v ≡ true)) where
-    still_unreal : (v : ℕ) → b.problem.is_real v ≡ false → owned v ≡ false → (problem_in w).is_real v ≡ false
+    pub still_unreal : (v : ℕ) → b.problem.is_real v ≡ false → owned v ≡ false → (problem_in w).is_real v ≡ false
     still_unreal v real off = false_from_ne_true ((problem_in w).is_real v) (λ h. step (covered v h))
       where
         step : (b.problem.is_real v ≡ true) ⊎ (owned v ≡ true) → ⊥

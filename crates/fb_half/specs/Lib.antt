@@ -7,6 +7,7 @@ pub mod InternalStandings
 pub mod Matchings
 pub mod Merged
 pub mod Parts
+pub mod Seams
 pub mod Standings
 pub mod Translations
 pub mod Values

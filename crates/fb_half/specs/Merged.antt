@@ -1,5 +1,5 @@
 -- The part of a fusion as it begins, made of its children's solved parts (Wu and Zhong 2023).
-use Rattle.std.specs.Prelude.{ℕ, ◌≡◌, ◌<◌, ◌&&◌, ◌||◌, Bool, true, false, not, List, ◌++◌, map, filter, length, get_or, Option, Some, None}
+use Rattle.std.specs.Prelude.{ℕ, ◌≡◌, ◌<◌, ◌&&◌, Bool, true, false, not, List, ◌++◌, map, filter, length, get_or, Option, Some, None}
 use Rattle.std.specs.List.Sorted.{IsPermutation}
 use Rattle.fb_graph.specs.Laws.{Link}
 use Rattle.fb_graph.specs.Limits.{no_shot}
@@ -11,7 +11,8 @@ use Rattle.fb_links.specs.Table.{link_at}
 use Rattle.fb_half.specs.declared.matches.Match.{Match}
 use Rattle.fb_half.specs.Beginnings.{leaves_by}
 use Rattle.fb_half.specs.Matchings.{match_links}
-use Rattle.fb_half.specs.Parts.{PartValue}
+use Rattle.fb_half.specs.Parts.{PartValue, problem_in}
+use Rattle.fb_half.specs.Seams.{far_end}
 use Rattle.fb_half.specs.Translations.{link_by, ring_links}
 use Rattle.fb_plan.specs.Vertices.{is_node}
 
@@ -23,24 +24,24 @@ IsPlanned t l = (l.from < length t.owners) × (l.to < length t.owners)
 abbrev pub is_owned_by : PlanTree → ℕ → ℕ → Bool
 is_owned_by t n v = is_node n (owner_of t v)
 
--- the node of the plan owns an end of the link
-abbrev pub ends_at_seam : PlanTree → ℕ → Link → Bool
-ends_at_seam t n l = is_owned_by t n l.from || is_owned_by t n l.to
-
 abbrev pub is_alone : Option ℕ → Bool
 is_alone None = true
 is_alone (Some b) = false
 
--- the match leads to a vertex that the node of the plan owns
-abbrev pub leads_to_seam : PlanTree → ℕ → List (Option (List Step)) → Match → Bool
-leads_to_seam t n links m = is_alone m.second && ends_at_seam t n (link_by links m.link)
+-- the match leads to the boundary, and the node of the plan owns the vertex there
+abbrev pub leads_to_seam : (ℕ → Bool) → PlanTree → ℕ → List (Option (List Step)) → Match → Bool
+leads_to_seam is_real t n links m = is_alone m.second && is_owned_by t n (far_end is_real (link_by links m.link))
 
--- the matches to vertices that the node owns, and all others
+-- the same of a match of the part
+abbrev pub is_freed : PartValue → ℕ → Match → Bool
+is_freed w n = leads_to_seam (problem_in w).is_real w.job.plan n w.links
+
+-- the matches to boundary vertices that the node owns, and all others
 abbrev pub seam_matches : PartValue → ℕ → List Match
-seam_matches w n = filter (leads_to_seam w.job.plan n w.links) w.matching.matches
+seam_matches w n = filter (is_freed w n) w.matching.matches
 
 abbrev pub other_matches : PartValue → ℕ → List Match
-other_matches w n = filter (λ m. not (leads_to_seam w.job.plan n w.links m)) w.matching.matches
+other_matches w n = filter (λ m. not (is_freed w n m)) w.matching.matches
 
 -- the nodes that are matched to such a vertex
 abbrev pub freed_in : PartValue → ℕ → List ℕ

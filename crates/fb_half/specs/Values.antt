@@ -1,7 +1,8 @@
--- The value of the parts of a half-solved part, and what the scope of its regions is.
+-- The value of the parts of a half-solved part, and what its pieces have to do with it.
 use Rattle.std.specs.Prelude.{◌≡◌}
 use Rattle.fb_plan.specs.declared.scope.NodeScope.{NodeScope}
-use Rattle.fb_half.specs.Parts.{PartValue}
+use Rattle.fb_half.specs.Parts.{PartValue, problem_in}
+use Rattle.fb_half.specs.Seams.{AreListed}
 use Rattle.fb_half.specs.declared.parts.Parts.{Parts}
 
 abbrev pub part_of : Parts → PartValue
@@ -21,6 +22,9 @@ pub record IsScopeOf (scope : NodeScope) (w : PartValue) : Type 0 where
   pub plan : scope.plan.now ≡ w.job.plan
   pub node : scope.node ≡ w.node
 
--- The regions are those of the part's node of the plan.
-abbrev pub HasScope : Parts → Type 0
-HasScope parts = IsScopeOf parts.regions.scope (part_of parts)
+-- The regions are those of the part's node of the plan, and the index has all matches to the boundary.
+pub record HasScope (parts : Parts) : Type 0 where
+  pub graph : parts.regions.scope.graph.now ≡ parts.job.now.graph
+  pub plan : parts.regions.scope.plan.now ≡ parts.job.now.plan
+  pub node : parts.regions.scope.node ≡ parts.node
+  pub listed : AreListed (problem_in (part_of parts)).is_real parts.job.now.plan parts.seams parts.links parts.matching.matches

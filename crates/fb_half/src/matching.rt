@@ -1,7 +1,8 @@
-ghost use Rattle.std.specs.Prelude.{◌≡◌, ◌<◌, ◌≤◌, ◌==◌, ℕ, true, false, if◌then◌else◌, [], ◌∷◌, ◌++◌, length, vec_capacity, All, OnOk, OnErr};
+ghost use Rattle.std.specs.Prelude.{◌≡◌, ◌↔◌, ◌<◌, ◌≤◌, ◌==◌, ℕ, true, false, if◌then◌else◌, [], ◌∷◌, ◌++◌, length, vec_capacity, All, OnOk, OnErr};
 ghost use Rattle.std.specs.List.Sorted.{IsPermutation};
 ghost use Rattle.fb_graph.specs.Parity.{is_in};
-ghost use Rattle.fb_half.specs.InternalStandings.{standing_of};
+ghost use Rattle.fb_half.specs.InternalStandings.{has_name, standing_of};
+ghost use Rattle.fb_half.specs.declared.matches.Standing.TheVariants.{Matched};
 ghost use Rattle.fb_half.specs.Matchings.{listed_names, match_links, matched_names, names_of};
 ghost use Rattle.fb_half.specs.Standings.{is_matched, is_unmatched};
 
@@ -24,7 +25,7 @@ pub struct Matching {
 }
 
 impl Model for Matching {
-    ghost use Rattle.std.specs.Prelude.{◌≡◌, map};
+    ghost use Rattle.std.specs.Prelude.{◌≡◌, ◌↔◌, map};
     ghost use Rattle.fb_half.specs.Matchings.{MatchingValue, match_links};
     ghost use Rattle.fb_half.specs.InternalStandings.{AreStanding};
 
@@ -97,6 +98,8 @@ impl Matching {
     pub fn standing(&self, name: NodeId) -> Standing
         ensures unmatched { is_in self.now.unmatched name ≡ is_unmatched result }
         ensures matched { is_in (matched_names self.now.matches) name ≡ is_matched result }
+        ensures place { (i : ℕ) → (result ≡ Matched i)
+            ↔ ((i < length self.now.matches) × (has_name self.now.matches i name ≡ true)) }
     {
         standing_in(&self.standings, name)
     }

@@ -1,6 +1,6 @@
 //! How the solved parts of two children become their parent's part.
 
-ghost use Rattle.std.specs.Prelude.{◌≡◌, ◌≢◌, ◌<◌, ◌++◌, ℕ, List, Option, true, false, length, map, filter, drop, All, IfOk, OnOk, Some, None, []};
+ghost use Rattle.std.specs.Prelude.{◌≡◌, ◌≢◌, ◌<◌, ◌++◌, ℕ, List, Option, true, false, length, map, filter, get_or, drop, All, IfOk, IfSome, OnOk, Some, None, option_to_list, []};
 ghost use Rattle.std.specs.List.Sorted.{IsStrictlyIncreasing};
 ghost use Rattle.fb_graph.specs.Certificate.{AreDistinct};
 ghost use Rattle.fb_graph.specs.Dual.{cover_of, is_live as is_node};
@@ -17,17 +17,20 @@ ghost use Rattle.fb_blossoms.specs.Merged.{AreLeavesApart};
 ghost use Rattle.fb_blossoms.specs.Merged as merged;
 ghost use Rattle.fb_blossoms.specs.Nodes as blossoms;
 ghost use Rattle.fb_half.specs.InternalMerging.{joined_part};
-ghost use Rattle.fb_half.specs.InternalSeams.{IsBeside, IsFreed, IsOpened, AddsSingles};
+ghost use Rattle.fb_half.specs.InternalSeams.{AddsSingles, AreBesideListed, IsFreed, IsOpened, meets_seam, met_nodes};
+ghost use Rattle.fb_half.specs.InternalStandings.{has_name, no_match};
 ghost use Rattle.fb_half.specs.Matchings.{listed_names, match_links, matched_names};
-ghost use Rattle.fb_half.specs.Merged.{IsPlanned, ends_at_seam, freed_in, is_owned_by, leads_to_seam, renamed_match};
+ghost use Rattle.fb_half.specs.Merged.{IsPlanned, is_owned_by, leads_to_seam, renamed_match};
+ghost use Rattle.fb_half.specs.Seams.{names_under};
 ghost use Rattle.fb_half.specs.Translations.{link_by};
-ghost use Rattle.fb_half.specs.Values.{HasScope, part_of};
+ghost use Rattle.fb_half.specs.Values.{HasScope, IsScopeOf, part_of};
 
 use crate::both::both;
-use crate::matches::Match;
+use crate::matches::{Match, Standing};
 use crate::matching::Matching;
 use crate::parts::Parts;
 use crate::reach::within;
+use crate::seams::{Seams, far_owner};
 use crate::spare::EmptyTables;
 use crate::start::add_leaf;
 use fb_blossoms::Blossoms;
@@ -97,11 +100,13 @@ pub(crate) fn merged_parts<'a>(
     ensures regions { IfOk result (λ m. m.parts.regions ≡ record { scope = scope.now; nodes = left.entry.regions.nodes ++ renamed_nodes (name_by m.names.items) right.entry.regions.nodes }) }
     ensures matching { IfOk result (λ m. m.parts.matching ≡ left.entry.matching) }
     ensures others { IfOk result (λ m. m.others ≡ right.entry.matching) }
+    ensures left_seams { IfOk result (λ m. (o x : ℕ) → is_in (names_under left.entry.seams o) x ≡ true → is_in (names_under m.parts.seams o) x ≡ true) }
+    ensures right_seams { IfOk result (λ m. (o x : ℕ) → is_in (names_under right.entry.seams o) x ≡ true → is_in (names_under m.parts.seams o) (name_by m.names.items x) ≡ true) }
     ensures job { IfOk result (λ m. m.parts.job.now ≡ left.entry.job.now) }
     ensures slot { IfOk result (λ m. m.parts.slot ≡ left.entry.slot) }
     ensures node { IfOk result (λ m. m.parts.node ≡ scope.now.node) }
 {
-    let (tables, (regions, matchings)) = both(
+    let (tables, (regions, others)) = both(
         merged_tables(
             alloc,
             left.links,
@@ -111,26 +116,32 @@ pub(crate) fn merged_parts<'a>(
         ),
         (
             (left.regions, right.regions),
-            (left.matching, right.matching),
+            (left.matching, right.matching, left.seams, right.seams),
         ),
     )?;
-    let ((regions, room), (tables, matchings)) = both(
+    let ((regions, room), (tables, others)) = both(
         Regions::merged_with_spare(alloc, regions.0, regions.1, &tables.names, scope),
-        (tables, matchings),
+        (tables, others),
+    )?;
+    let (mine, theirs, my_seams, their_seams) = others;
+    let (seams, (tables, regions, room, mine, theirs)) = both(
+        Seams::merged(alloc, my_seams, their_seams, &tables.names),
+        (tables, regions, room, mine, theirs),
     )?;
     Ok(MergedParts {
         parts: Parts {
             regions,
             links: tables.links,
             blossoms: tables.blossoms,
-            matching: matchings.0,
+            matching: mine,
+            seams,
             job: left.job,
             slot: left.slot,
             node: scope.node,
         },
         link_names: tables.link_names,
         names: tables.names,
-        others: matchings.1,
+        others: theirs,
         room,
     })
 }
@@ -165,62 +176,129 @@ pub(crate) fn take_matches(
     Ok(())
 }
 
-/// Whether the node of the plan owns an end of the link.
-fn ends_at_seam(links: &Links, link: LinkId, plan: &Plan, node: u32) -> bool
-    requires live { is_live links.now link ≡ true }
-    requires ends { IsPlanned plan.now (link_by links.now link) }
-    ensures { result ≡ ends_at_seam plan.now node (link_by links.now link) }
-{
-    let (from, to) = links.ends(link);
-    plan.owner(from) == Some(node) || plan.owner(to) == Some(node)
+/// The vertices that a node of a plan owns, as a fusion opens them.
+#[derive(Clone, Copy)]
+struct Seam<'a> {
+    plan: &'a Plan,
+    node: u32,
 }
 
-/// Whether the match leads to a vertex that the node of the plan owns.
-pub fn leads_to_seam(links: &Links, m: Match, plan: &Plan, node: u32) -> bool
+/// Whether the match leads to the boundary by a link with an end on the seam.
+fn meets_seam(links: &Links, m: Match, seam: &Seam<'_>) -> bool
     requires live { is_live links.now m.link ≡ true }
-    requires ends { IsPlanned plan.now (link_by links.now m.link) }
-    ensures { result ≡ leads_to_seam plan.now node links.now m }
+    requires ends { IsPlanned seam.now.plan.now (link_by links.now m.link) }
+    ensures { result ≡ meets_seam seam.now.plan.now seam.now.node links.now m }
 {
-    m.second.is_none() && ends_at_seam(links, m.link, plan, node)
+    if m.second.is_some() {
+        return false;
+    }
+    let (from, to) = links.ends(m.link);
+    seam.plan.owner(from) == Some(seam.node) || seam.plan.owner(to) == Some(seam.node)
 }
 
-/// The nodes that are matched to a vertex which the node of the plan owns.
+/// Whether the match leads to a vertex at the boundary of the scope that this node of the plan owns.
+pub fn leads_to_seam(links: &Links, m: Match, scope: &NodeScope<'_>, node: u32) -> bool
+    requires live { is_live links.now m.link ≡ true }
+    requires ends { IsPlanned scope.now.plan.now (link_by links.now m.link) }
+    requires vertices { length scope.now.plan.now.owners ≡ scope.now.graph.now.vertices }
+    ensures { result ≡ leads_to_seam (problem_at scope.now.graph.now scope.now.plan.now scope.now.node no_shot).is_real
+        scope.now.plan.now node links.now m }
+{
+    m.second.is_none() && far_owner(links, m.link, scope) == Some(node)
+}
+
+/// The place of the node's match, if that meets the seam.
+fn seam_place(links: &Links, matching: &Matching, name: NodeId, seam: &Seam<'_>) -> Option<usize>
+    requires live { All (λ m. is_live links.now m.link ≡ true) matching.now.matches }
+    requires ends { All (λ m. IsPlanned seam.now.plan.now (link_by links.now m.link)) matching.now.matches }
+    ensures some { IfSome result (λ i. (i < length matching.now.matches)
+        × (meets_seam seam.now.plan.now seam.now.node links.now (get_or matching.now.matches i no_match) ≡ true)) }
+    ensures all { (i : ℕ) → i < length matching.now.matches → has_name matching.now.matches i name ≡ true
+        → meets_seam seam.now.plan.now seam.now.node links.now (get_or matching.now.matches i no_match) ≡ true → result ≡ Some i }
+{
+    let Standing::Matched(place) = matching.standing(name) else {
+        return None;
+    };
+    if meets_seam(links, matching.matches()[place], seam) {
+        return Some(place);
+    }
+    None
+}
+
+/// Adds the place, if there is one.
+fn push_place(places: &mut Vec<usize>, place: Option<usize>) -> Result<(), NoMemory>
+    ensures { OnOk result (places.new.items ≡ places.old.items ++ option_to_list place) }
+{
+    if let Some(place) = place {
+        places.push(place)?;
+    }
+    Ok(())
+}
+
+/// The places of the matches that meet the seam, rising. Looks at the matches of the listed nodes alone, which has those of
+/// all such matches.
+fn seam_places(
+    alloc: Global,
+    links: &Links,
+    matching: &Matching,
+    listed: &[NodeId],
+    seam: &Seam<'_>,
+) -> Result<Vec<usize>, NoMemory>
+    requires live { All (λ m. is_live links.now m.link ≡ true) matching.now.matches }
+    requires ends { All (λ m. IsPlanned seam.now.plan.now (link_by links.now m.link)) matching.now.matches }
+    requires listed { All (λ m. meets_seam seam.now.plan.now seam.now.node links.now m ≡ true → is_in listed.now m.first ≡ true) matching.now.matches }
+    ensures rising { IfOk result (λ places. IsStrictlyIncreasing places.items) }
+    ensures meets { IfOk result (λ places. (i : ℕ) → is_in places.items i ≡ true
+        → (i < length matching.now.matches) × (meets_seam seam.now.plan.now seam.now.node links.now (get_or matching.now.matches i no_match) ≡ true)) }
+    ensures all { IfOk result (λ places. (i : ℕ) → i < length matching.now.matches
+        → meets_seam seam.now.plan.now seam.now.node links.now (get_or matching.now.matches i no_match) ≡ true → is_in places.items i ≡ true) }
+{
+    let mut places = Vec::new(alloc);
+    for name in listed {
+        push_place(&mut places, seam_place(links, matching, *name, seam))?;
+    }
+    places.sort_unstable();
+    places.dedup();
+    Ok(places)
+}
+
+/// The nodes whose matches meet the seam, in the order of their matches. Looks at the listed nodes alone.
 fn freed_nodes(
     alloc: Global,
     links: &Links,
-    matches: &[Match],
-    plan: &Plan,
-    node: u32,
+    matching: &Matching,
+    listed: &[NodeId],
+    seam: &Seam<'_>,
 ) -> Result<Vec<NodeId>, NoMemory>
-    requires live { All (λ m. is_live links.now m.link ≡ true) matches.now }
-    requires ends { All (λ m. IsPlanned plan.now (link_by links.now m.link)) matches.now }
-    ensures { IfOk result (λ freed. freed.items ≡ map (λ m. m.first) (filter (leads_to_seam plan.now node links.now) matches.now)) }
+    requires live { All (λ m. is_live links.now m.link ≡ true) matching.now.matches }
+    requires ends { All (λ m. IsPlanned seam.now.plan.now (link_by links.now m.link)) matching.now.matches }
+    requires listed { All (λ m. meets_seam seam.now.plan.now seam.now.node links.now m ≡ true → is_in listed.now m.first ≡ true) matching.now.matches }
+    ensures { IfOk result (λ freed. freed.items ≡ map (λ m. m.first) (filter (meets_seam seam.now.plan.now seam.now.node links.now) matching.now.matches)) }
 {
+    let places = seam_places(alloc, links, matching, listed, seam)?;
     let mut freed = Vec::new(alloc);
-    for m in matches {
-        if leads_to_seam(links, *m, plan, node) {
-            freed.push(m.first)?;
-        }
+    for place in &places {
+        freed.push(matching.matches()[*place].first)?;
     }
     Ok(freed)
 }
 
-/// Removes each match to a vertex that the node of the plan owns, and its link. The node that was matched becomes
-/// unmatched.
+/// Removes each match that meets the seam, and its link. The node that was matched becomes unmatched.
 fn free_nodes(
     alloc: Global,
     matching: &mut Matching,
     links: &mut Links,
-    plan: &Plan,
-    node: u32,
+    listed: &[NodeId],
+    seam: &Seam<'_>,
 ) -> Result<(), NoMemory>
     requires names { AreDistinct (listed_names matching.old) }
     requires links { AreDistinct (match_links matching.old.matches) }
     requires live { All (λ m. is_live links.old m.link ≡ true) matching.old.matches }
-    requires ends { All (λ m. IsPlanned plan.now (link_by links.old m.link)) matching.old.matches }
-    ensures { OnOk result (IsFreed (filter (leads_to_seam plan.now node links.old) matching.old.matches) matching.old matching.new links.old links.new) }
+    requires ends { All (λ m. IsPlanned seam.now.plan.now (link_by links.old m.link)) matching.old.matches }
+    requires listed { All (λ m. meets_seam seam.now.plan.now seam.now.node links.old m ≡ true → is_in listed.now m.first ≡ true) matching.old.matches }
+    ensures { OnOk result (IsFreed (filter (meets_seam seam.now.plan.now seam.now.node links.old) matching.old.matches) matching.old matching.new links.old links.new) }
 {
-    let freed = freed_nodes(alloc, links, matching.matches(), plan, node)?;
+    let freed = freed_nodes(alloc, links, matching, listed, seam)?;
     for name in &freed {
         let m = matching.take_match(*name);
         links.forget(m.link);
@@ -275,9 +353,9 @@ fn add_leaves(
 
 /// Makes the vertices that the part's node owns real: removes the matches to them, and makes their defects further nodes.
 fn open_seam(alloc: Global, parts: &mut Parts<'_>) -> Result<(), NoMemory>
-    requires scope { HasScope parts.old }
-    requires beside { IsBeside (part_of parts.old) }
-    ensures opened { OnOk result (IsOpened (drop (length (parts.old.matching.unmatched ++ freed_in (part_of parts.old) parts.old.node)) parts.new.matching.unmatched) (part_of parts.old) (part_of parts.new)) }
+    requires scope { IsScopeOf parts.old.regions.scope (part_of parts.old) }
+    requires beside { AreBesideListed parts.old.seams (part_of parts.old) }
+    ensures opened { OnOk result (IsOpened (drop (length (parts.old.matching.unmatched ++ met_nodes (part_of parts.old))) parts.new.matching.unmatched) (part_of parts.old) (part_of parts.new)) }
     ensures scope { OnOk result (HasScope parts.new) }
 {
     let Parts {
@@ -285,6 +363,7 @@ fn open_seam(alloc: Global, parts: &mut Parts<'_>) -> Result<(), NoMemory>
         links,
         blossoms,
         matching,
+        seams,
         job,
         slot,
         node,
@@ -293,17 +372,19 @@ fn open_seam(alloc: Global, parts: &mut Parts<'_>) -> Result<(), NoMemory>
     job.graph().limits();
     links.keeps();
     let plan = job.plan();
-    free_nodes(alloc, matching, links, plan, *node)?;
+    let listed = seams.take(alloc, *node);
+    let seam = Seam { plan, node: *node };
+    free_nodes(alloc, matching, links, &listed, &seam)?;
     let own = seam_defects(alloc, plan, *node, job.shots()[*slot as usize].as_slice())?;
     add_leaves(alloc, regions, blossoms, matching, &own)
 }
 
 /// Takes over the right part's matches, and opens the seam. Returns the tables of a part without nodes.
 pub(crate) fn complete(alloc: Global, merged: &mut MergedParts<'_>) -> Result<EmptyTables, NoMemory>
-    requires scope { HasScope merged.old.parts }
+    requires scope { IsScopeOf merged.old.parts.regions.scope (part_of merged.old.parts) }
     requires distinct { AreDistinct (listed_names merged.old.parts.matching ++ matched_names (map (renamed_match (name_by merged.old.link_names.items) (name_by merged.old.names.items)) merged.old.others.matches)) }
-    requires beside { IsBeside (joined_part merged.old) }
-    ensures opened { OnOk result (IsOpened (drop (length ((joined_part merged.old).matching.unmatched ++ freed_in (joined_part merged.old) merged.old.parts.node)) merged.new.parts.matching.unmatched) (joined_part merged.old) (part_of merged.new.parts)) }
+    requires beside { AreBesideListed merged.old.parts.seams (joined_part merged.old) }
+    ensures opened { OnOk result (IsOpened (drop (length ((joined_part merged.old).matching.unmatched ++ met_nodes (joined_part merged.old))) merged.new.parts.matching.unmatched) (joined_part merged.old) (part_of merged.new.parts)) }
     ensures scope { OnOk result (HasScope merged.new.parts) }
 {
     let MergedParts {

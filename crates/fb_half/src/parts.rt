@@ -2,6 +2,7 @@ ghost use Rattle.std.specs.Prelude.{◌≡◌};
 ghost use Rattle.fb_half.specs.Values.{part_of};
 
 use crate::matching::Matching;
+use crate::seams::Seams;
 use fb_blossoms::Blossoms;
 use fb_links::Links;
 use fb_plan::{Job, NodeScope};
@@ -15,6 +16,7 @@ pub struct Parts<'a> {
     pub links: Links,
     pub blossoms: Blossoms,
     pub matching: Matching,
+    pub seams: Seams,
     pub(crate) job: &'a Job<'a>,
     pub(crate) slot: u32,
     pub(crate) node: u32,

@@ -1,10 +1,11 @@
 ghost use Rattle.std.specs.Prelude.{◌≡◌, IfOk};
 ghost use Rattle.fb_half.specs.InternalBeginnings.{empty_part};
-ghost use Rattle.fb_half.specs.Values.{HasScope, part_of};
+ghost use Rattle.fb_half.specs.Values.{IsScopeOf, part_of};
 
 use crate::both::both;
 use crate::matching::Matching;
 use crate::parts::Parts;
+use crate::seams::Seams;
 use fb_blossoms::Blossoms;
 use fb_graph::NoMemory;
 use fb_links::Links;
@@ -20,6 +21,7 @@ pub struct Spare {
     links: Links,
     blossoms: Blossoms,
     matching: Matching,
+    seams: Seams,
 }
 
 impl Model for Spare {
@@ -40,6 +42,7 @@ impl Spare {
             links: parts.links.into_empty(),
             blossoms: parts.blossoms.into_empty(),
             matching: parts.matching.into_empty(),
+            seams: parts.seams.into_empty(),
         }
     }
 
@@ -51,15 +54,17 @@ impl Spare {
             links: tables.links,
             blossoms: tables.blossoms,
             matching: matching.into_empty(),
+            seams: tables.seams,
         }
     }
 }
 
-/// The links and the blossoms of a part without nodes.
+/// The links, the blossoms and the index of a part without nodes.
 #[derive(Drop)]
 pub(crate) struct EmptyTables {
     links: Links,
     blossoms: Blossoms,
+    seams: Seams,
 }
 
 impl Model for EmptyTables {
@@ -78,6 +83,7 @@ impl EmptyTables {
         Ok(EmptyTables {
             links: Links::new(alloc)?,
             blossoms: Blossoms::new(alloc)?,
+            seams: Seams::new(alloc),
         })
     }
 }
@@ -91,7 +97,7 @@ pub(crate) fn empty_parts<'a>(
     spare: Option<Spare>,
 ) -> Result<Parts<'a>, NoMemory>
     ensures value { IfOk result (λ p. part_of p ≡ empty_part job.now slot node) }
-    ensures scope { IfOk result HasScope }
+    ensures scope { IfOk result (λ p. IsScopeOf p.regions.scope (part_of p)) }
 {
     match spare {
         Some(spare) => parts_on(alloc, spare, job, slot, node),
@@ -107,7 +113,7 @@ fn new_parts<'a>(
     node: u32,
 ) -> Result<Parts<'a>, NoMemory>
     ensures value { IfOk result (λ p. part_of p ≡ empty_part job.now slot node) }
-    ensures scope { IfOk result HasScope }
+    ensures scope { IfOk result (λ p. IsScopeOf p.regions.scope (part_of p)) }
 {
     let tables = EmptyTables::new(alloc)?;
     let (regions, tables) = both(Regions::new(alloc, &scope_of(job, node)), tables)?;
@@ -116,6 +122,7 @@ fn new_parts<'a>(
         links: tables.links,
         blossoms: tables.blossoms,
         matching: Matching::new(alloc),
+        seams: tables.seams,
         job,
         slot,
         node,
@@ -131,13 +138,14 @@ fn parts_on<'a>(
     node: u32,
 ) -> Result<Parts<'a>, NoMemory>
     ensures value { IfOk result (λ p. part_of p ≡ empty_part job.now slot node) }
-    ensures scope { IfOk result HasScope }
+    ensures scope { IfOk result (λ p. IsScopeOf p.regions.scope (part_of p)) }
 {
     Ok(Parts {
         regions: Regions::on(alloc, spare.regions, &scope_of(job, node))?,
         links: spare.links,
         blossoms: spare.blossoms,
         matching: spare.matching,
+        seams: spare.seams,
         job,
         slot,
         node,

@@ -8,7 +8,7 @@ ghost use Rattle.fb_plan.specs.Plans.{problem_at};
 ghost use Rattle.fb_blossoms.specs.Nodes as blossoms;
 ghost use Rattle.fb_half.specs.InternalBeginnings.{IsStarted, LiesWithin, empty_part};
 ghost use Rattle.fb_half.specs.Matchings.{listed_names};
-ghost use Rattle.fb_half.specs.Values.{HasScope, part_of};
+ghost use Rattle.fb_half.specs.Values.{IsScopeOf, part_of};
 
 use crate::matching::Matching;
 use crate::parts::Parts;
@@ -89,12 +89,12 @@ pub(crate) fn add_leaf(
 
 /// Makes each of these defects a node of a part without nodes, none of them matched.
 pub(crate) fn start(alloc: Global, parts: &mut Parts<'_>, own: &[u32]) -> Result<(), NoMemory>
-    requires scope { HasScope parts.old }
+    requires scope { IsScopeOf parts.old.regions.scope (part_of parts.old) }
     requires empty { part_of parts.old ≡ empty_part parts.old.job.now parts.old.slot parts.old.node }
     requires distinct { AreDistinct own.now }
     requires real { All (λ v. (problem_at parts.old.job.now.graph parts.old.job.now.plan parts.old.node no_shot).is_real v ≡ true) own.now }
     ensures started { OnOk result (IsStarted own.now parts.new.regions.nodes parts.new.blossoms parts.new.matching) }
-    ensures scope { OnOk result (HasScope parts.new) }
+    ensures scope { OnOk result (IsScopeOf parts.new.regions.scope (part_of parts.new)) }
     ensures links { OnOk result (parts.new.links ≡ []) }
     ensures job { OnOk result (parts.new.job.now ≡ parts.old.job.now) }
     ensures slot { OnOk result (parts.new.slot ≡ parts.old.slot) }

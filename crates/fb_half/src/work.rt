@@ -179,8 +179,8 @@ impl<'a> Work<'a> {
     /// The part of a fusion, made of its children's solved parts (Wu and Zhong 2023): all their cuts, and all their links
     /// but those of matches to vertices that the fusion owns. The nodes of these matches and the defects that the fusion
     /// owns are unmatched: first the left part's nodes, then the right part's, then the defects in rising order. Takes time
-    /// for the right part, for the matches of both, for each defect of the shot within the fusion's reach, and for the
-    /// logarithm of all.
+    /// for the right part, for the nodes of the left part that are or were matched to those vertices, for each defect of the
+    /// shot within the fusion's reach, and for the logarithm of all.
     pub fn merge(
         alloc: Global,
         job: &'a Job<'a>,

@@ -35,6 +35,7 @@ pub mod KeptBounds
 pub mod KeptNodes
 pub mod KeptWatches
 pub mod Linked
+pub mod ListedSteps
 pub mod LinkedSteps
 pub mod MadeLinks
 pub mod Matched

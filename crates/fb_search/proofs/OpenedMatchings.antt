@@ -39,7 +39,10 @@ use Rattle.fb_search.proofs.OpenedWays.{couple_by, mate_of}
 use Rattle.fb_search.proofs.Openings.{HasOpened, Opens}
 use Rattle.fb_graph.proofs.Floods.{is_in-both, is_in-left, is_in-right}
 use Rattle.fb_links.proofs.MovedLinks.{Table}
+use Rattle.fb_half.specs.declared.seams.Seams.{Seams}
+use Rattle.fb_half.specs.Seams.{AreListed}
 use Rattle.fb_half.proofs.FreedMatches.{link_in}
+use Rattle.fb_search.proofs.ListedSteps.{Lists, listed_kept, no_second}
 
 -- a link under other nodes than the one that is split leads where it led
 match_stays : (p : Problem) (nodes others : List Node) (name : ℕ)
@@ -178,6 +181,16 @@ module _ (w : SearchValue) (name : ℕ) (e : EntryOf ℕ) (above below : ℕ) (a
       links_kept w name e above below are opens links store tree watched has m.link
       (is_in-right (tree_links tree.branches) (match_links matches_after ++ ring_links Others store) m.link
       (is_in-left (match_links matches_after) (ring_links Others store) m.link (link_in matches_after m a)))
+
+  -- so the index still has those to the boundary
+  pub opened_listed : (s : Seams) → Lists s w.part → AreListed (problem_of w).is_real w.part.job.plan s links matches_after
+  opened_listed s was =
+      listed_kept (problem_of w).is_real w.part.job.plan s w.part.links links w.part.matching.matches matches_after was
+      (λ m a none. (by m none (among_either w.part.matching.matches (couples_on Rest) m a), same_link m a))
+    where
+      by : (m : Match) → m.second ≡ None → IsAmong m w.part.matching.matches ⊎ IsAmong m (couples_on Rest) → IsAmong m w.part.matching.matches
+      by m none (inl a) = a
+      by m none (inr a) = absurd (no_second m (mate_of m.second) (sym (second_is Rest m a)) none)
 
   old_match : (m : Match) → IsAmong m w.part.matching.matches
       → IsMatchOf (problem_of w) Others (link_by w.part.links m.link) m.first m.second

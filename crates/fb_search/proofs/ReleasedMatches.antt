@@ -1,12 +1,12 @@
 -- A search that ends at a node that was matched to the boundary: the node is matched with the tree instead.
-use Rattle.std.proofs.Common.{ℕ, ◌≡◌, ◌||◌, ◌⊎◌, inl, inr, cond, true, false, All, Bool, List, [], ◌∷◌, ◌++◌, map, Option, None, is_some, refl, sym, ap, subst, ◌∙◌, option_to_list}
+use Rattle.std.proofs.Common.{ℕ, ◌≡◌, ◌||◌, ◌⊎◌, inl, inr, cond, true, false, All, Bool, List, [], ◌∷◌, ◌++◌, map, Option, None, is_some, unwrap_or, refl, sym, ap, subst, ◌∙◌, option_to_list}
 use Rattle.std.specs.List.Sorted.{IsPermutation}
 use Rattle.std.proofs.lemmas.Bool.{both_ways, cases_eq, eq-eqb, ne_eqb}
 use Rattle.std.proofs.lemmas.List.Elements.{All-head, All-tail}
 use Rattle.std.proofs.lemmas.List.Sorted.{All-permutation, IsPermutation-append_left, IsPermutation-append_right, IsPermutation-cons, IsPermutation-map, IsPermutation-middle, IsPermutation-sym, IsPermutation-trans}
 use Rattle.fb_graph.specs.Parity.{is_in}
 use Rattle.fb_graph.specs.Certificate.{AreDistinct}
-use Rattle.fb_graph.proofs.Among.{IsAmong, All_among, among_All}
+use Rattle.fb_graph.proofs.Among.{IsAmong, All_among, among_All, among_left}
 use Rattle.fb_graph.proofs.Sets.{All-from_is_in, is_in-All}
 use Rattle.fb_laws.specs.LinkNumbers.{links_dropped, tree_links}
 use Rattle.fb_laws.specs.Works.{names_without}
@@ -14,8 +14,15 @@ use Rattle.fb_laws.proofs.StateMoves.{state_released}
 use Rattle.fb_links.specs.declared.walk.Step.{Step}
 use Rattle.fb_links.specs.Table.{Removes, is_live, link_at}
 use Rattle.fb_half.specs.declared.matches.Match.{Match}
+use Rattle.fb_half.specs.declared.seams.Seams.{Seams}
+use Rattle.fb_half.specs.Seams.{AreListed}
+use Rattle.fb_half.proofs.FreedMatches.{link_in}
+use Rattle.fb_graph.proofs.Floods.{is_in-left}
+use Rattle.fb_laws.proofs.MergedParts.{distinct_across}
+use Rattle.fb_laws.proofs.OpenedBlossoms.{distinct_permuted}
+use Rattle.fb_search.proofs.ListedSteps.{Lists, listed_ended, paired_listed}
 use Rattle.fb_half.specs.Matchings.{MatchingValue, listed_names, match_links, matched_names, names_of}
-use Rattle.fb_half.specs.Parts.{IsPart}
+use Rattle.fb_half.specs.Parts.{IsPart, problem_in}
 use Rattle.fb_half.specs.Translations.{link_by, link_of, ring_links}
 use Rattle.fb_trees.proofs.Mapped.{plus_moved}
 use Rattle.fb_search.specs.declared.attaching.Met.{Met}
@@ -194,3 +201,34 @@ module _ (w : SearchValue) (met : Met) (now : SearchValue) (h : HasMet w met now
         Ended s n =
             IsPart (record s.part { links = new; matching = n })
             × IsSearched w.tree.root w.part (record s.part { links = new; matching = n })
+
+  -- the index still has the matches to the boundary
+  pub released_listed : (s : Seams) → Lists s now.part → (rest : MatchingValue) → rest.matches ≡ now.part.matching.matches → (mid new : Table)
+      (m : MatchingValue) → Removes now.part.links mid met.taken.link → Forgets (links_dropped now.tree.branches met.plus) mid new
+      → m ≡ record { matches = all_matches rest.matches now.tree.branches met.plus out_match; unmatched = rest.unmatched }
+      → AreListed (problem_in now.part).is_real now.part.job.plan s new m.matches
+  released_listed s listed rest same mid new m removes forgets matching =
+      subst (AreListed (problem_in now.part).is_real now.part.job.plan s new)
+      (sym (ap (λ x. x.matches) matching ∙ ap (λ l. all_matches l now.tree.branches met.plus out_match) same))
+      (listed_ended (problem_in now.part).is_real now.part.job.plan s now.part.links new kept kept now.tree.branches met.plus out_match listed stays
+      (paired_listed (problem_in now.part).is_real now.part.job.plan s new met.link met.plus met.other))
+    where
+      within : (e : Match) → IsAmong e kept → is_in (others_kept w met.plus kept) e.link ≡ true
+      within e a =
+          is_in-left (match_links (kept ++ ended_matches w.tree.branches met.plus)) rings e.link
+          (link_in (kept ++ ended_matches w.tree.branches met.plus) e (among_left kept (ended_matches w.tree.branches met.plus) e a))
+
+      all : Forgets (met.taken.link ∷ dropped) now.part.links new
+      all =
+          forgets_more met.taken.link dropped now.part.links mid new removes
+          (subst (λ t. Forgets (links_dropped t.branches met.plus) mid new) tree_is forgets)
+
+      stays : (e : Match) → IsAmong e kept → IsAmong e kept × (link_by new e.link ≡ link_by now.part.links e.link)
+      stays e a = (
+        a,
+        ap (λ o. link_of (unwrap_or o []))
+            (all e.link
+            ∙ ap (λ b. cond b None (link_at now.part.links e.link))
+            (distinct_across (others_kept w met.plus kept) (met.taken.link ∷ dropped) e.link
+            (distinct_permuted (searched_links w) (others_kept w met.plus kept ++ met.taken.link ∷ dropped) counted h.was.links.distinct) (within e a))),
+      )

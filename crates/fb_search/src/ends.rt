@@ -12,8 +12,8 @@ use crate::ending::{forget_tree, match_tree};
 use crate::pieces::into_work;
 use crate::scratch::Scratch;
 use crate::searching::{Pieces, Searching};
-use fb_graph::NoMemory;
-use fb_half::{Match, Work};
+use fb_graph::{NoMemory, Scope};
+use fb_half::{Match, Work, far_owner};
 use fb_regions::NodeId;
 use fb_trees::{link_between, link_out};
 use std::alloc::Global;
@@ -68,7 +68,10 @@ fn match_out(
     ensures { OnOk result (AreEnded (search_of pieces.old) pieces.new) }
 {
     let Pieces { parts, tree, .. } = pieces;
+    parts.regions.scope().limits();
     let link = link_out(alloc, &parts.regions, &mut parts.links, edge)?;
+    let owner = far_owner(&parts.links, link, parts.regions.scope());
+    parts.seams.list(alloc, owner, plus)?;
     parts.matching.take_unmatched(tree.root());
     let out = Match {
         link,

@@ -14,7 +14,7 @@ ghost use Rattle.fb_search.specs.Progress.{IsSearched};
 use crate::ending::add_matches;
 use crate::near::{Near, NearPair, near_of};
 use fb_graph::{NoMemory, Scope};
-use fb_half::{Match, Parts, Work};
+use fb_half::{Match, Parts, Work, far_owner};
 use fb_regions::{NodeId, Regions};
 use fb_trees::{link_between, link_out};
 use std::alloc::Global;
@@ -45,6 +45,8 @@ fn reach_boundary(
     parts.regions.scope().limits();
     grow_node(&mut parts.regions, root, length);
     let link = link_out(alloc, &parts.regions, &mut parts.links, edge)?;
+    let owner = far_owner(&parts.links, link, parts.regions.scope());
+    parts.seams.list(alloc, owner, root)?;
     parts.matching.take_unmatched(root);
     let out = Match {
         link,

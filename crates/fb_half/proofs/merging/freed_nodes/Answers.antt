@@ -1,25 +1,45 @@
-use Rattle.std.proofs.Common.{ℕ, ◌≡◌, ◌∙◌, ◌+◌, ◌<◌, ◌++◌, ◌∷◌, Bool, true, false, List, [], cond, get_or, length, map, take, ap, sym}
-use Rattle.std.proofs.lemmas.List.{append-nil, map-append}
-use Rattle.std.proofs.lemmas.List.Elements.{filter_more}
-use Rattle.std.specs.List.{filter}
+use Rattle.std.proofs.Common.{◌<◌, ◌∙◌, Bool, get_or, length, map, take, ap, sym, subst, arith}
+use Rattle.std.proofs.lemmas.List.{take_all}
+use Rattle.fb_graph.specs.Parity.{is_in}
+use Rattle.fb_graph.proofs.Sets.{is_in_at}
 use Rattle.fb_half.specs.declared.matches.Match.{Match}
+use Rattle.fb_half.specs.InternalSeams.{meets_seam}
 use Rattle.fb_half.specs.InternalStandings.{no_match}
-use Rattle.fb_half.specs.Merged.{leads_to_seam}
-use Rattle.fb_half.proofs.merging.freed_nodes.Goals.{then-leads_to_seam+in_ok-push, else-leads_to_seam}
+use Rattle.fb_half.proofs.SeamPlaces.{placed, placed_more}
 use Rattle.fb_half.proofs.merging.freed_nodes.Goals as goal
 
-freed_more : (test : Match → Bool) (ms : List Match) (i : ℕ) (b : Bool) (had now : List ℕ) → i < length ms
-    → had ≡ map (λ m. m.first) (filter test (take i ms)) → b ≡ test (get_or ms i no_match)
-    → now ≡ had ++ cond b ((get_or ms i no_match).first ∷ []) [] → now ≡ map (λ m. m.first) (filter test (take (i + 1) ms))
-freed_more test ms i true had now less was is added = rw (added, was, filter_more test ms i no_match less, ← is, map-append)
-freed_more test ms i false had now less was is added = rw (added, was, filter_more test ms i no_match less, ← is, append-nil, append-nil)
+pub loop-place-init : goal.loop-place-init
+loop-place-init c = c.new-freed.ensures.items
 
-pub loop-m-preserved : goal.loop-m-preserved
-loop-m-preserved c =
-    let more = freed_more (leads_to_seam c.args.plan.now c.args.node c.args.links.now) c.args.matches.now c.loop-m.m-index in
-    elim c.if-leads_to_seam.branch [
-      | then-leads_to_seam+in_ok-push w ↦ more true c.loop-m.freed.items _ c.loop-m-test.true c.loop-m.invariant
-          (sym w.if-leads_to_seam.true ∙ c.leads_to_seam.ensures) (ap (λ v. v.items) w.freed-is ∙ w.in_ok-push.ensures.items)
-      | else-leads_to_seam w ↦ more false c.loop-m.freed.items _ c.loop-m-test.true c.loop-m.invariant
-          (sym w.if-leads_to_seam.false ∙ c.leads_to_seam.ensures) (ap (λ v. v.items) w.freed-is ∙ sym (append-nil c.loop-m.freed.items))
-    ]
+pub bounds-matches-place : goal.bounds-matches-place
+bounds-matches-place c =
+    subst (λ l. get_or c.deref-place-items.result.now c.loop-place.place-index 0 < length l) (sym c.matches.ensures)
+    (c.in_ok-places.ensures.meets (get_or c.deref-place-items.result.now c.loop-place.place-index 0)
+    (ap (λ l. is_in l (get_or c.deref-place-items.result.now c.loop-place.place-index 0)) (sym c.deref-place-items.ensures.value)
+    ∙ is_in_at c.deref-place-items.result.now c.loop-place.place-index 0 c.loop-place-test.true)).0
+
+pub offset_bounds-matches-place : goal.offset_bounds-matches-place
+offset_bounds-matches-place c =
+    let less : get_or c.deref-place-items.result.now c.loop-place.place-index 0 < length c.matches.result.now =
+    subst (λ l. get_or c.deref-place-items.result.now c.loop-place.place-index 0 < length l) (sym c.matches.ensures)
+    (c.in_ok-places.ensures.meets (get_or c.deref-place-items.result.now c.loop-place.place-index 0)
+    (ap (λ l. is_in l (get_or c.deref-place-items.result.now c.loop-place.place-index 0)) (sym c.deref-place-items.ensures.value)
+    ∙ is_in_at c.deref-place-items.result.now c.loop-place.place-index 0 c.loop-place-test.true)).0 in
+    record { fits = omega (arith, less, c.matches.type_inv.1) }
+
+pub loop-place-preserved : goal.loop-place-preserved
+loop-place-preserved c =
+    placed_more c.args.matching.now.matches c.matches.result.now _ c.deref-place-items.result.now c.loop-place.freed.items c.push.new.self.items
+    c.loop-place.place-index c.loop-place-test.true c.matches.ensures
+    (subst (λ l. get_or c.deref-place-items.result.now c.loop-place.place-index 0 < length l) (sym c.matches.ensures)
+    (c.in_ok-places.ensures.meets (get_or c.deref-place-items.result.now c.loop-place.place-index 0)
+    (ap (λ l. is_in l (get_or c.deref-place-items.result.now c.loop-place.place-index 0)) (sym c.deref-place-items.ensures.value)
+    ∙ is_in_at c.deref-place-items.result.now c.loop-place.place-index 0 c.loop-place-test.true)).0)
+    c.loop-place.invariant c.in_ok-push.ensures.items
+
+pub returns : goal.returns
+returns c =
+    let test : Match → Bool = meets_seam c.args.seam.now.plan.now c.args.seam.now.node c.args.links.now in
+    c.loop-place.invariant
+    ∙ (ap (map (λ i. (get_or c.args.matching.now.matches i no_match).first)) (take_all c.loop-place.place-index c.deref-place-items.result.now c.loop-place-test.false ∙ c.deref-place-items.ensures.value)
+    ∙ placed (λ m. m.first) test c.args.matching.now.matches no_match c.in_ok-places.places.items c.in_ok-places.ensures.rising c.in_ok-places.ensures.meets c.in_ok-places.ensures.all)

@@ -1,7 +1,6 @@
-use Rattle.std.proofs.Common.{◌≡◌, map, take}
-use Rattle.std.specs.List.{filter}
-use Rattle.fb_half.specs.Merged.{leads_to_seam}
+use Rattle.std.proofs.Common.{◌≡◌, get_or, map, take}
+use Rattle.fb_half.specs.InternalStandings.{no_match}
 use Rattle.fb_half.proofs.merging.freed_nodes.Given as goal
 
-abbrev pub invariant-loop-m : goal.invariant-loop-m
-invariant-loop-m l = l.freed.items ≡ map (λ m. m.first) (filter (leads_to_seam l.plan l.node l.links) (take l.m-index l.matches))
+abbrev pub invariant-loop-place : goal.invariant-loop-place
+invariant-loop-place l = l.freed.items ≡ map (λ i. (get_or l.matching.matches i no_match).first) (take l.place-index l.place-items)

@@ -1,4 +1,4 @@
-use Rattle.std.proofs.Common.{◌≡◌, ◌≢◌, ◌<◌, ℕ, true, None, Some, length, All, sym, subst}
+use Rattle.std.proofs.Common.{◌≡◌, ◌≢◌, ◌<◌, ◌∙◌, ℕ, true, None, Some, length, All, ap, refl, sym, subst}
 use Rattle.std.specs.List.Sorted.{IsStrictlyIncreasing}
 use Rattle.fb_graph.specs.Certificate.{AreDistinct}
 use Rattle.fb_graph.specs.Dual.{cover_of}
@@ -9,68 +9,87 @@ use Rattle.fb_half.specs.Merged.{IsPlanned}
 use Rattle.fb_half.specs.Translations.{link_by}
 use Rattle.fb_half.specs.Values.{part_of}
 use Rattle.fb_half.proofs.BegunParts.{shot_read}
+use Rattle.fb_half.proofs.ListedHalves.{met_listed, ok_with, opened_listed}
 use Rattle.fb_half.proofs.SeamOpenings.{freed_unlisted, live_matches, own_links, planned, seam_bare, seam_distinct, seam_leafless, seam_read, seam_opened, seam_real, shot_planned, shot_rises}
 use Rattle.fb_half.proofs.merging.open_seam.Goals as goal
 
 pub free_nodes-requires-clause-links : goal.free_nodes-requires-clause-links
-free_nodes-requires-clause-links c = own_links (part_of c.args.parts.now) c.keeps.ensures (subst IsGraph c.graph.ensures c.limits.ensures) c.requires.beside
+free_nodes-requires-clause-links c = own_links (part_of c.args.parts.now) c.keeps.ensures (subst IsGraph c.graph.ensures c.limits.ensures) c.requires.beside.beside
 
 pub free_nodes-requires-clause-live : goal.free_nodes-requires-clause-live
-free_nodes-requires-clause-live c = live_matches (part_of c.args.parts.now) c.keeps.ensures (subst IsGraph c.graph.ensures c.limits.ensures) c.requires.beside
+free_nodes-requires-clause-live c = live_matches (part_of c.args.parts.now) c.keeps.ensures (subst IsGraph c.graph.ensures c.limits.ensures) c.requires.beside.beside
 
 pub free_nodes-requires-clause-ends : goal.free_nodes-requires-clause-ends
 free_nodes-requires-clause-ends c =
     subst (λ t. All (λ m. IsPlanned t (link_by c.args.parts.now.links m.link)) c.args.parts.now.matching.matches) (sym c.plan-plan.ensures)
-    (planned (part_of c.args.parts.now) c.keeps.ensures (subst IsGraph c.graph.ensures c.limits.ensures) c.requires.beside c.keeps-2.ensures)
+    (planned (part_of c.args.parts.now) c.keeps.ensures (subst IsGraph c.graph.ensures c.limits.ensures) c.requires.beside.beside c.keeps-2.ensures)
 
 pub seam_defects-requires-clause-node : goal.seam_defects-requires-clause-node
-seam_defects-requires-clause-node c = subst (λ t. c.args.parts.now.node < node_count t) (sym c.plan-plan.ensures) c.requires.beside.node
+seam_defects-requires-clause-node c = subst (λ t. c.args.parts.now.node < node_count t) (sym c.plan-plan.ensures) c.requires.beside.beside.node
 
 pub seam_defects-requires-clause-rising : goal.seam_defects-requires-clause-rising
 seam_defects-requires-clause-rising c =
     subst IsStrictlyIncreasing
-    (sym (shot_read c.args.parts.now.job.now c.args.parts.now.slot _ _ _ c.shots.ensures c.requires.beside.slot c.index-shots-slot.is c.as_slice.ensures.defects))
-    (shot_rises (part_of c.args.parts.now) c.keeps.ensures (subst IsGraph c.graph.ensures c.limits.ensures) c.requires.beside)
+    (sym (shot_read c.args.parts.now.job.now c.args.parts.now.slot _ _ _ c.shots.ensures c.requires.beside.beside.slot c.index-shots-slot.is c.as_slice.ensures.defects))
+    (shot_rises (part_of c.args.parts.now) c.keeps.ensures (subst IsGraph c.graph.ensures c.limits.ensures) c.requires.beside.beside)
 
 pub seam_defects-requires-clause-vertices : goal.seam_defects-requires-clause-vertices
 seam_defects-requires-clause-vertices c =
     subst (λ t. All (λ v. v < length t.owners) c.as_slice.result.now) (sym c.plan-plan.ensures)
     (subst (All (λ v. v < length c.args.parts.now.job.now.plan.owners))
-    (sym (shot_read c.args.parts.now.job.now c.args.parts.now.slot _ _ _ c.shots.ensures c.requires.beside.slot c.index-shots-slot.is c.as_slice.ensures.defects))
-    (shot_planned (part_of c.args.parts.now) c.keeps.ensures (subst IsGraph c.graph.ensures c.limits.ensures) c.requires.beside))
+    (sym (shot_read c.args.parts.now.job.now c.args.parts.now.slot _ _ _ c.shots.ensures c.requires.beside.beside.slot c.index-shots-slot.is c.as_slice.ensures.defects))
+    (shot_planned (part_of c.args.parts.now) c.keeps.ensures (subst IsGraph c.graph.ensures c.limits.ensures) c.requires.beside.beside))
 
 pub add_leaves-requires-clause-distinct : goal.add_leaves-requires-clause-distinct
 add_leaves-requires-clause-distinct c =
     subst AreDistinct
-    (sym (seam_read _ _ _ _ _ _ _ c.plan-plan.ensures (shot_read c.args.parts.now.job.now c.args.parts.now.slot _ _ _ c.shots.ensures c.requires.beside.slot c.index-shots-slot.is c.as_slice.ensures.defects) c.in_ok-own.ensures c.deref.ensures.value))
-    (seam_distinct (part_of c.args.parts.now) c.keeps.ensures (subst IsGraph c.graph.ensures c.limits.ensures) c.requires.beside)
+    (sym (seam_read _ _ _ _ _ _ _ c.plan-plan.ensures (shot_read c.args.parts.now.job.now c.args.parts.now.slot _ _ _ c.shots.ensures c.requires.beside.beside.slot c.index-shots-slot.is c.as_slice.ensures.defects) c.in_ok-own.ensures c.deref-2.ensures.value))
+    (seam_distinct (part_of c.args.parts.now) c.keeps.ensures (subst IsGraph c.graph.ensures c.limits.ensures) c.requires.beside.beside)
 
 pub add_leaves-requires-clause-real : goal.add_leaves-requires-clause-real
 add_leaves-requires-clause-real c =
-    subst (λ g. All (λ v. (problem_at g c.args.parts.now.regions.scope.plan.now c.args.parts.now.regions.scope.node no_shot).is_real v ≡ true) c.deref.result.now) (sym c.requires.scope.graph)
-    (subst (λ t. All (λ v. (problem_at c.args.parts.now.job.now.graph t c.args.parts.now.regions.scope.node no_shot).is_real v ≡ true) c.deref.result.now) (sym c.requires.scope.plan)
-    (subst (λ n. All (λ v. (problem_at c.args.parts.now.job.now.graph c.args.parts.now.job.now.plan n no_shot).is_real v ≡ true) c.deref.result.now) (sym c.requires.scope.node)
+    subst (λ g. All (λ v. (problem_at g c.args.parts.now.regions.scope.plan.now c.args.parts.now.regions.scope.node no_shot).is_real v ≡ true) c.deref-2.result.now) (sym c.requires.scope.graph)
+    (subst (λ t. All (λ v. (problem_at c.args.parts.now.job.now.graph t c.args.parts.now.regions.scope.node no_shot).is_real v ≡ true) c.deref-2.result.now) (sym c.requires.scope.plan)
+    (subst (λ n. All (λ v. (problem_at c.args.parts.now.job.now.graph c.args.parts.now.job.now.plan n no_shot).is_real v ≡ true) c.deref-2.result.now) (sym c.requires.scope.node)
     (subst (All (λ v. (problem_at c.args.parts.now.job.now.graph c.args.parts.now.job.now.plan c.args.parts.now.node no_shot).is_real v ≡ true))
-    (sym (seam_read _ _ _ _ _ _ _ c.plan-plan.ensures (shot_read c.args.parts.now.job.now c.args.parts.now.slot _ _ _ c.shots.ensures c.requires.beside.slot c.index-shots-slot.is c.as_slice.ensures.defects) c.in_ok-own.ensures c.deref.ensures.value))
-    (seam_real (part_of c.args.parts.now) c.keeps.ensures (subst IsGraph c.graph.ensures c.limits.ensures) c.requires.beside))))
+    (sym (seam_read _ _ _ _ _ _ _ c.plan-plan.ensures (shot_read c.args.parts.now.job.now c.args.parts.now.slot _ _ _ c.shots.ensures c.requires.beside.beside.slot c.index-shots-slot.is c.as_slice.ensures.defects) c.in_ok-own.ensures c.deref-2.ensures.value))
+    (seam_real (part_of c.args.parts.now) c.keeps.ensures (subst IsGraph c.graph.ensures c.limits.ensures) c.requires.beside.beside))))
 
 pub add_leaves-requires-clause-uncovered : goal.add_leaves-requires-clause-uncovered
 add_leaves-requires-clause-uncovered c =
     subst (All (λ v. cover_of c.args.parts.now.regions.nodes v ≡ None))
-    (sym (seam_read _ _ _ _ _ _ _ c.plan-plan.ensures (shot_read c.args.parts.now.job.now c.args.parts.now.slot _ _ _ c.shots.ensures c.requires.beside.slot c.index-shots-slot.is c.as_slice.ensures.defects) c.in_ok-own.ensures c.deref.ensures.value))
-    (seam_bare (part_of c.args.parts.now) c.keeps.ensures (subst IsGraph c.graph.ensures c.limits.ensures) c.requires.beside)
+    (sym (seam_read _ _ _ _ _ _ _ c.plan-plan.ensures (shot_read c.args.parts.now.job.now c.args.parts.now.slot _ _ _ c.shots.ensures c.requires.beside.beside.slot c.index-shots-slot.is c.as_slice.ensures.defects) c.in_ok-own.ensures c.deref-2.ensures.value))
+    (seam_bare (part_of c.args.parts.now) c.keeps.ensures (subst IsGraph c.graph.ensures c.limits.ensures) c.requires.beside.beside)
 
 pub add_leaves-requires-clause-leafless : goal.add_leaves-requires-clause-leafless
 add_leaves-requires-clause-leafless c =
     subst (All (λ v. (x : ℕ) → blossoms.node_at c.args.parts.now.blossoms x ≢ Some (blossoms.leaf v)))
-    (sym (seam_read _ _ _ _ _ _ _ c.plan-plan.ensures (shot_read c.args.parts.now.job.now c.args.parts.now.slot _ _ _ c.shots.ensures c.requires.beside.slot c.index-shots-slot.is c.as_slice.ensures.defects) c.in_ok-own.ensures c.deref.ensures.value))
-    (seam_leafless (part_of c.args.parts.now) c.keeps.ensures (subst IsGraph c.graph.ensures c.limits.ensures) c.requires.beside)
+    (sym (seam_read _ _ _ _ _ _ _ c.plan-plan.ensures (shot_read c.args.parts.now.job.now c.args.parts.now.slot _ _ _ c.shots.ensures c.requires.beside.beside.slot c.index-shots-slot.is c.as_slice.ensures.defects) c.in_ok-own.ensures c.deref-2.ensures.value))
+    (seam_leafless (part_of c.args.parts.now) c.keeps.ensures (subst IsGraph c.graph.ensures c.limits.ensures) c.requires.beside.beside)
 
 pub add_leaves-requires-clause-listed : goal.add_leaves-requires-clause-listed
-add_leaves-requires-clause-listed c = freed_unlisted (part_of c.args.parts.now) c.keeps.ensures (subst IsGraph c.graph.ensures c.limits.ensures) c.requires.beside _ _ _ c.in_ok-free_nodes.ensures
+add_leaves-requires-clause-listed c = freed_unlisted (part_of c.args.parts.now) c.keeps.ensures (subst IsGraph c.graph.ensures c.limits.ensures) c.requires.beside.beside _ _ _ c.in_ok-free_nodes.ensures
+
+pub free_nodes-requires-clause-listed : goal.free_nodes-requires-clause-listed
+free_nodes-requires-clause-listed c =
+    met_listed (part_of c.args.parts.now) c.args.parts.now.seams c.plan-plan.result.now c.args.parts.now.node c.deref.result.now c.requires.beside c.plan-plan.ensures refl
+    (c.deref.ensures.value ∙ c.take-listed.ensures.taken)
 
 pub returns-clause-opened : goal.returns-clause-opened
 returns-clause-opened c =
     seam_opened _ (part_of c.args.parts.now) _ _ _ _ _ _ _ c.plan-plan.ensures
-    (seam_read _ _ _ _ _ _ _ c.plan-plan.ensures (shot_read c.args.parts.now.job.now c.args.parts.now.slot _ _ _ c.shots.ensures c.requires.beside.slot c.index-shots-slot.is c.as_slice.ensures.defects) c.in_ok-own.ensures c.deref.ensures.value)
+    (seam_read _ _ _ _ _ _ _ c.plan-plan.ensures (shot_read c.args.parts.now.job.now c.args.parts.now.slot _ _ _ c.shots.ensures c.requires.beside.beside.slot c.index-shots-slot.is c.as_slice.ensures.defects) c.in_ok-own.ensures c.deref-2.ensures.value)
     c.in_ok-free_nodes.ensures c.add_leaves.ensures.singles_added
+
+pub returns-clause-scope : goal.returns-clause-scope
+returns-clause-scope c =
+    ok_with c.add_leaves.result
+    (λ (same : c.add_leaves.new.regions.scope ≡ c.args.parts.now.regions.scope) opened. record {
+      graph = ap (λ s. s.graph.now) same ∙ c.requires.scope.graph;
+      plan = ap (λ s. s.plan.now) same ∙ c.requires.scope.plan;
+      node = ap (λ s. s.node) same ∙ c.requires.scope.node;
+      listed = opened_listed _ (part_of c.args.parts.now) _ c.args.parts.now.seams c.take-listed.new.self c.requires.beside opened c.take-listed.ensures.others;
+    }) c.add_leaves.ensures.scope
+    (seam_opened _ (part_of c.args.parts.now) _ _ _ _ _ _ _ c.plan-plan.ensures
+    (seam_read _ _ _ _ _ _ _ c.plan-plan.ensures (shot_read c.args.parts.now.job.now c.args.parts.now.slot _ _ _ c.shots.ensures c.requires.beside.beside.slot c.index-shots-slot.is c.as_slice.ensures.defects) c.in_ok-own.ensures c.deref-2.ensures.value)
+    c.in_ok-free_nodes.ensures c.add_leaves.ensures.singles_added)

@@ -1,6 +1,7 @@
 use Rattle.std.proofs.lemmas.Result.{IfOk-weaker}
 use Rattle.fb_search.specs.InternalPieces.{AreSearching}
 use Rattle.fb_search.specs.InternalSearching.{SearchValue, relinked_search, search_of}
+use Rattle.fb_search.proofs.ListedSteps.{listed_made, scope_is}
 use Rattle.fb_search.proofs.MetPairs.{link_closes, pair_between}
 use Rattle.fb_search.proofs.RoundedSearches.{goes_on_relinked}
 use Rattle.fb_search.proofs.ScopeWalks.{between_scoped, met_scoped}
@@ -9,7 +10,7 @@ use Rattle.fb_search.proofs.closing.close_over.Goals as goal
 pub link_between-requires : goal.link_between-requires
 link_between-requires c =
     let w : SearchValue = search_of c.args.pieces.now in
-    between_scoped w.part _ c.requires.scope c.args.edge c.args.first c.args.second
+    between_scoped w.part _ (scope_is _ c.requires.scope) c.args.edge c.args.first c.args.second
     (pair_between w c.args.edge c.args.first c.args.second c.requires.pair)
 
 pub join_cycle-requires : goal.join_cycle-requires
@@ -18,10 +19,12 @@ join_cycle-requires c =
     let scope = c.requires.scope in
     let made = c.in_ok-closing.ensures in
     record {
-      scope = record { graph = scope.graph; plan = scope.plan; node = scope.node };
+      scope = record { graph = scope.graph; plan = scope.plan; node = scope.node; listed = 
+          listed_made w c.args.pieces.now.parts.seams c.link_between.new.links c.in_ok-closing.closing made.walk w.part.matching.matches c.requires.search
+          made.adds (λ m a. a) scope.listed };
       closes = link_closes w c.args.edge c.args.first c.args.second c.requires.pair made.walk c.in_ok-closing.closing
           c.link_between.new.links c.requires.search made.adds
-          (met_scoped w.part _ scope c.args.edge c.args.first c.args.second made.walk
+          (met_scoped w.part _ (scope_is _ scope) c.args.edge c.args.first c.args.second made.walk
           (pair_between w c.args.edge c.args.first c.args.second c.requires.pair) made.between);
     }
 

@@ -1,9 +1,11 @@
-use Rattle.std.proofs.Common.{◌∙◌, ap, length, sym}
+use Rattle.std.proofs.Common.{◌∙◌, ap, length, subst, sym}
 use Rattle.std.proofs.lemmas.Result.{IfOk-weaker}
 use Rattle.fb_search.specs.InternalClosings.{IsReplacedBy}
-use Rattle.fb_search.specs.InternalSearching.{SearchValue, search_of}
+use Rattle.fb_half.specs.Seams.{AreListed}
+use Rattle.fb_search.specs.InternalSearching.{SearchValue, problem_of, search_of}
 use Rattle.fb_search.proofs.ClosedCycles.{steps_join, steps_live, steps_odd, steps_outer, steps_replaced, steps_round}
 use Rattle.fb_search.proofs.ClosedSearches.{cycle_made, new_name, root_new}
+use Rattle.fb_search.proofs.ListedSteps.{scope_is}
 use Rattle.fb_search.proofs.closing.join_steps.Goals as goal
 
 pub watch_minus-requires-clause-live : goal.watch_minus-requires-clause-live
@@ -80,11 +82,12 @@ returns c =
     cycle_made w a b c.args.closing closes c.args.cycle.items is
     c.in_ok-blossom.blossom c.form.new.self c.in_ok-blossom.ensures.ok c.args.nodes.now c.requires.nodes c.args.closing
     c.replace.new.self c.in_ok-replace.ensures.ok
-    c.args.pieces.now.parts.regions.scope scope (rw c.scope.ensures at c.limits.ensures) c.replace_unmatched.new.matching
+    c.args.pieces.now.parts.regions.scope (scope_is _ scope) (rw c.scope.ensures at c.limits.ensures) c.replace_unmatched.new.matching
     (rw (c.root-root.ensures, c.root.ensures) at replaced) c.watch_minus.new.watch c.watch_minus.ensures
     c.keeps.ensures.within in
     record {
-      scope = record { graph = scope.graph; plan = scope.plan; node = scope.node };
+      scope = record { graph = scope.graph; plan = scope.plan; node = scope.node; listed = 
+          subst (AreListed (problem_of w).is_real w.part.job.plan c.args.pieces.now.parts.seams w.part.links) (sym replaced.matches) scope.listed };
       keeps = both.0;
       goes_on = both.1;
     }) c.replace_unmatched.ensures)

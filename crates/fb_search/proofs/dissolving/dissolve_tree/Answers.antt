@@ -2,6 +2,7 @@ use Rattle.std.proofs.Common.{refl}
 use Rattle.fb_trees.proofs.Names.{root_plus}
 use Rattle.fb_search.specs.InternalSearching.{SearchValue, search_of}
 use Rattle.fb_search.proofs.DissolvedParts.{left_apart, left_live, left_once, part_is_left}
+use Rattle.fb_search.proofs.ListedSteps.{left_listed}
 use Rattle.fb_search.proofs.dissolving.dissolve_tree.Goals as goal
 
 pub matches_at_end-requires : goal.matches_at_end-requires
@@ -31,7 +32,9 @@ returns c =
     let scope = c.requires.scope in
     rw (c.in_ok-add_matches.ensures, c.deref.ensures.value, c.in_ok-matches.ensures, c.root-root.ensures)
     (record {
-      scope = record { graph = scope.graph; plan = scope.plan; node = scope.node };
+      scope = record { graph = scope.graph; plan = scope.plan; node = scope.node; listed = 
+          left_listed w c.args.pieces.now.parts.seams c.forget_tree.new.links c.requires.search (rw c.root-root.ensures at c.in_ok-forget_tree.ensures)
+          scope.listed };
       part = part_is_left w c.forget_tree.new.links c.requires.search (rw c.root-root.ensures at c.in_ok-forget_tree.ensures)
           c.requires.even;
       dissolved = record {

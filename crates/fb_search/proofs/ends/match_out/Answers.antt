@@ -1,5 +1,9 @@
-use Rattle.std.proofs.Common.{refl}
+use Rattle.std.proofs.Common.{◌∙◌, ap, is_some, refl, subst, sym}
+use Rattle.fb_half.specs.Translations.{link_by}
+use Rattle.fb_half.specs.Values.{IsScopeOf}
 use Rattle.fb_search.specs.InternalSearching.{SearchValue, search_of}
+use Rattle.fb_search.proofs.ListedSteps.{far_asked, out_listed, owner_scoped, scope_is}
+use Rattle.fb_search.proofs.NearMatches.{limits_scoped}
 use Rattle.fb_search.proofs.ScopeWalks.{out_bare, out_scoped}
 use Rattle.fb_search.proofs.TreeEnds.{boundary_apart, boundary_ended, gone_live, gone_once, leads_out, leaving_plus}
 use Rattle.fb_search.proofs.ends.match_out.Goals as goal
@@ -10,8 +14,35 @@ link_out-requires c =
     let leads = c.requires.leads in (
       c.args.plus,
       leads.outer,
-      out_bare w.part _ c.requires.scope c.args.edge c.args.plus leads.outer (leads_out w c.args.edge c.args.plus leads),
+      out_bare w.part _ (scope_is _ c.requires.scope) c.args.edge c.args.plus leads.outer (leads_out w c.args.edge c.args.plus leads),
     )
+
+pub far_owner-requires-clause-live : goal.far_owner-requires-clause-live
+far_owner-requires-clause-live c = ap is_some c.in_ok-link.ensures.adds.added
+
+pub far_owner-requires-clause-ends : goal.far_owner-requires-clause-ends
+far_owner-requires-clause-ends c =
+    let w : SearchValue = search_of c.args.pieces.now in
+    let leads = c.requires.leads in
+    let made = c.in_ok-link.ensures in
+    let is = scope_is _ c.requires.scope in
+    let outs =
+    (out_scoped w.part _ is c.args.edge c.args.plus leads.outer made.walk (leads_out w c.args.edge c.args.plus leads) made.out).walk_is in
+    (far_asked w.part c.scope-2.result.now w.part.links c.link_out.new.links c.in_ok-link.link made.walk
+    (subst (λ s. IsScopeOf s w.part) (sym c.scope-2.ensures) is) c.requires.search.job
+    (limits_scoped w.part _ c.scope.result.now c.scope.ensures is c.limits.ensures) made.adds outs.some outs.steps).0
+
+pub far_owner-requires-clause-vertices : goal.far_owner-requires-clause-vertices
+far_owner-requires-clause-vertices c =
+    let w : SearchValue = search_of c.args.pieces.now in
+    let leads = c.requires.leads in
+    let made = c.in_ok-link.ensures in
+    let is = scope_is _ c.requires.scope in
+    let outs =
+    (out_scoped w.part _ is c.args.edge c.args.plus leads.outer made.walk (leads_out w c.args.edge c.args.plus leads) made.out).walk_is in
+    (far_asked w.part c.scope-2.result.now w.part.links c.link_out.new.links c.in_ok-link.link made.walk
+    (subst (λ s. IsScopeOf s w.part) (sym c.scope-2.ensures) is) c.requires.search.job
+    (limits_scoped w.part _ c.scope.result.now c.scope.ensures is c.limits.ensures) made.adds outs.some outs.steps).1
 
 pub match_tree-requires-clause-plus : goal.match_tree-requires-clause-plus
 match_tree-requires-clause-plus c =
@@ -47,11 +78,16 @@ returns c =
     let ended =
     boundary_ended w c.args.edge c.args.plus c.in_ok-link.link c.take_unmatched.new.self.unmatched c.requires.search leads
     (rw c.root.ensures at c.take_unmatched.ensures.unmatched) made.walk c.link_out.new.links c.forget_tree.new.links
-    (out_scoped w.part _ scope c.args.edge c.args.plus leads.outer made.walk (leads_out w c.args.edge c.args.plus leads)
+    (out_scoped w.part _ (scope_is _ scope) c.args.edge c.args.plus leads.outer made.walk (leads_out w c.args.edge c.args.plus leads)
     made.out) made.adds c.in_ok-forget_tree.ensures in
     rw (c.in_ok-match_tree.ensures, c.take_unmatched.ensures.matches)
     (record {
-      scope = record { graph = scope.graph; plan = scope.plan; node = scope.node };
+      scope = record { graph = scope.graph; plan = scope.plan; node = scope.node; listed = 
+          out_listed w c.args.plus c.in_ok-link.link made.walk c.link_out.new.links c.forget_tree.new.links c.requires.search made.adds
+          c.in_ok-forget_tree.ensures c.args.pieces.now.parts.seams c.list.new.self c.far_owner-owner.result scope.listed c.in_ok-list.ensures
+          (c.far_owner-owner.ensures
+          ∙ owner_scoped c.scope-2.result.now w.part (link_by c.link_out.new.links c.in_ok-link.link)
+          (subst (λ s. IsScopeOf s w.part) (sym c.scope-2.ensures) (scope_is _ scope))) };
       part = ended.0;
       ends = record { searched = ended.1; room = refl };
     })

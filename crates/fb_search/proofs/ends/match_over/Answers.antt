@@ -1,5 +1,6 @@
 use Rattle.std.proofs.Common.{refl}
 use Rattle.fb_search.specs.InternalSearching.{SearchValue, search_of}
+use Rattle.fb_search.proofs.ListedSteps.{met_listed, scope_is}
 use Rattle.fb_search.proofs.ScopeWalks.{between_scoped, met_scoped}
 use Rattle.fb_search.proofs.TreeEnds.{gone_live, gone_once, meeting_plus, meets_between, met_apart, met_ended, root_left}
 use Rattle.fb_search.proofs.ends.match_over.Goals as goal
@@ -7,7 +8,7 @@ use Rattle.fb_search.proofs.ends.match_over.Goals as goal
 pub link_between-requires : goal.link_between-requires
 link_between-requires c =
     let w : SearchValue = search_of c.args.pieces.now in
-    between_scoped w.part _ c.requires.scope c.args.edge c.args.plus c.args.other
+    between_scoped w.part _ (scope_is _ c.requires.scope) c.args.edge c.args.plus c.args.other
     (meets_between w c.args.edge c.args.plus c.args.other c.requires.meets)
 
 pub take_unmatched-requires-2 : goal.take_unmatched-requires-2
@@ -52,12 +53,14 @@ returns c =
     met_ended w c.args.edge c.args.plus c.args.other c.in_ok-link.link c.take_unmatched.new.self.unmatched
     c.take_unmatched-2.new.self.unmatched c.requires.search meets c.take_unmatched.ensures.unmatched
     (rw c.root.ensures at c.take_unmatched-2.ensures.unmatched) made.walk c.link_between.new.links c.forget_tree.new.links
-    (met_scoped w.part _ scope c.args.edge c.args.plus c.args.other made.walk
+    (met_scoped w.part _ (scope_is _ scope) c.args.edge c.args.plus c.args.other made.walk
     (meets_between w c.args.edge c.args.plus c.args.other meets) made.between)
     c.requires.unmatched made.adds c.in_ok-forget_tree.ensures in
     rw (c.in_ok-match_tree.ensures, c.take_unmatched-2.ensures.matches, c.take_unmatched.ensures.matches)
     (record {
-      scope = record { graph = scope.graph; plan = scope.plan; node = scope.node };
+      scope = record { graph = scope.graph; plan = scope.plan; node = scope.node; listed = 
+          met_listed w c.args.plus c.in_ok-link.link made.walk c.link_between.new.links c.forget_tree.new.links c.requires.search made.adds
+          c.in_ok-forget_tree.ensures c.args.other c.args.pieces.now.parts.seams scope.listed };
       part = ended.0;
       ends = record { searched = ended.1; room = refl };
     })

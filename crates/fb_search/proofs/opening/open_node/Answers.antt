@@ -17,6 +17,7 @@ use Rattle.fb_search.proofs.Agreed.{cycle_there, outer_in_store}
 use Rattle.fb_search.proofs.BegunSearches.{kept_limits, kept_watches}
 use Rattle.fb_search.proofs.BranchEnds.{enters_above, enters_below, opens_by}
 use Rattle.fb_search.proofs.OpenedConditions.{couples_fresh, left_distinct, left_live, plus_live, way_linked, way_opens}
+use Rattle.fb_search.proofs.OpenedMatchings.{opened_listed}
 use Rattle.fb_search.proofs.OpenedSearches.{goes_on_opened, searching_opened}
 use Rattle.fb_search.proofs.Openings.{HasOpened, Opens}
 use Rattle.fb_search.proofs.opening.open_node.Goals as goal
@@ -181,7 +182,9 @@ returns c =
     (added : c.add_matches.new.matching
     ≡ record { matches = w.part.matching.matches ++ c.deref-5.result.now; unmatched = w.part.matching.unmatched }).
     rw (added, matches) (record {
-      scope = record { graph = scope.graph; plan = scope.plan; node = scope.node };
+      scope = record { graph = scope.graph; plan = scope.plan; node = scope.node; listed = 
+          opened_listed w c.args.node e c.child_at-above.result c.child_at-below.result c.requires.search opens
+          c.forget_all.new.links c.open_up-cycle.new.self c.replace.new.self c.watch_plus.new.watch has c.args.pieces.now.parts.seams scope.listed };
       keeps = searching_opened w c.args.node e c.child_at-above.result c.child_at-below.result c.requires.search opens
           c.forget_all.new.links c.open_up-cycle.new.self c.replace.new.self c.watch_plus.new.watch limits has;
       goes_on = goes_on_opened w c.args.node e c.child_at-above.result c.child_at-below.result c.requires.search opens

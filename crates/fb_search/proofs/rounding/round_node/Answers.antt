@@ -1,6 +1,7 @@
 use Rattle.std.proofs.lemmas.Result.{IfOk-weaker}
 use Rattle.fb_search.specs.InternalPieces.{AreSearching}
 use Rattle.fb_search.specs.InternalSearching.{SearchValue, relinked_search, search_of}
+use Rattle.fb_search.proofs.ListedSteps.{listed_made}
 use Rattle.fb_search.proofs.RoundedSearches.{goes_on_relinked, rounded_closes, rounding}
 use Rattle.fb_search.proofs.rounding.round_node.Goals as goal
 
@@ -13,7 +14,9 @@ pub join_cycle-requires : goal.join_cycle-requires
 join_cycle-requires c =
     let scope = c.requires.scope in
     record {
-      scope = record { graph = scope.graph; plan = scope.plan; node = scope.node };
+      scope = record { graph = scope.graph; plan = scope.plan; node = scope.node; listed = 
+          listed_made (search_of c.args.pieces.now) c.args.pieces.now.parts.seams c.join_ends.new.self c.in_ok-closing.closing _
+          c.args.pieces.now.parts.matching.matches c.requires.search c.in_ok-closing.ensures.ok (λ m a. a) scope.listed };
       closes = rounded_closes _ _ _ _ (rounding _ _ _ c.requires.search c.requires.zero.1 c.branch-branch.ensures)
           c.in_ok-closing.ensures.ok c.requires.search;
     }

@@ -2,9 +2,9 @@ use Rattle.std.proofs.Common.{◌∙◌, ◌++◌, drop, length, map, refl, sym,
 use Rattle.fb_graph.specs.Certificate.{AreDistinct}
 use Rattle.fb_links.specs.Names.{name_by}
 use Rattle.fb_half.specs.InternalMerging.{joined_part}
-use Rattle.fb_half.specs.InternalSeams.{IsBeside, IsOpened}
+use Rattle.fb_half.specs.InternalSeams.{AreBesideListed, IsOpened, met_nodes}
 use Rattle.fb_half.specs.Matchings.{listed_names, matched_names}
-use Rattle.fb_half.specs.Merged.{freed_in, renamed_match}
+use Rattle.fb_half.specs.Merged.{renamed_match}
 use Rattle.fb_half.specs.Merged as promised
 use Rattle.fb_half.specs.Parts.{PartValue}
 use Rattle.fb_half.specs.Values.{HasScope, part_of}
@@ -14,6 +14,7 @@ use Rattle.fb_half.proofs.DoneSteps.{both_with}
 use Rattle.fb_half.proofs.FusedHalves.{fused_part}
 use Rattle.fb_half.proofs.FusedMatches.{merged_is}
 use Rattle.fb_half.proofs.GivenHalves.{halves_of, pieces_are}
+use Rattle.fb_half.proofs.ListedHalves.{beside_listed}
 use Rattle.fb_half.proofs.MergedHalves.{beside, leaves_apart, matches_distinct, scoped_parts}
 use Rattle.fb_half.proofs.work.Work.merge_with_spare.Goals as goal
 
@@ -78,9 +79,11 @@ complete-requires-clause-beside c =
       matches = l.matches ++ map (renamed_match (name_by c.in_ok-merged.merged.link_names.items) (name_by c.in_ok-merged.merged.names.items)) c.in_ok-merged.merged.others.matches;
       unmatched = l.unmatched;
     }) c.in_ok-merged.ensures.matching) in
-    subst IsBeside (sym same)
-    (beside (part_of c.into_parts-left.result) (part_of c.into_parts-right.result) c.args.node h.limits h.children h.one h.two h.matched h.also
-    c.in_ok-merged.merged.link_names.items c.in_ok-merged.merged.names.items c.in_ok-merged.merged.parts.links c.in_ok-merged.merged.parts.blossoms c.in_ok-merged.ensures.links stores)
+    subst (AreBesideListed c.in_ok-merged.merged.parts.seams) (sym same)
+    (beside_listed (part_of c.into_parts-left.result) (part_of c.into_parts-right.result) c.args.node h.limits h.children h.one h.two h.matched h.also
+    c.in_ok-merged.merged.link_names.items c.in_ok-merged.merged.names.items c.in_ok-merged.merged.parts.links c.in_ok-merged.merged.parts.blossoms c.in_ok-merged.ensures.links stores
+    h.same_job c.into_parts-left.result.seams c.into_parts-right.result.seams c.in_ok-merged.merged.parts.seams
+    c.in_ok-merged.ensures.left_seams c.in_ok-merged.ensures.right_seams c.into_parts-left.ensures.scope.listed c.into_parts-right.ensures.scope.listed)
 
 pub invariant_of-result : goal.invariant_of-result
 invariant_of-result c =
@@ -104,12 +107,12 @@ invariant_of-result c =
           c.in_ok-tables.ensures.0 c.in_ok-tables.ensures.1 c.complete.ensures.scope,
       fused_part (part_of c.into_parts-left.result) (part_of c.into_parts-right.result) c.args.node h.limits h.children h.one h.two h.matched h.also
           c.in_ok-merged.merged.link_names.items c.in_ok-merged.merged.names.items c.in_ok-merged.merged.parts.links c.in_ok-merged.merged.parts.blossoms c.in_ok-merged.ensures.links stores
-          (drop (length (made.matching.unmatched ++ freed_in made c.in_ok-merged.merged.parts.node)) c.in_ok-tables.merged.parts.matching.unmatched) (part_of c.in_ok-tables.merged.parts)
+          (drop (length (made.matching.unmatched ++ met_nodes made)) c.in_ok-tables.merged.parts.matching.unmatched) (part_of c.in_ok-tables.merged.parts)
           (beside (part_of c.into_parts-left.result) (part_of c.into_parts-right.result) c.args.node h.limits h.children h.one h.two h.matched h.also
           c.in_ok-merged.merged.link_names.items c.in_ok-merged.merged.names.items c.in_ok-merged.merged.parts.links c.in_ok-merged.merged.parts.blossoms c.in_ok-merged.ensures.links stores)
           refl
-          (subst (λ x. IsOpened (drop (length (made.matching.unmatched ++ freed_in made c.in_ok-merged.merged.parts.node)) c.in_ok-tables.merged.parts.matching.unmatched) x (part_of c.in_ok-tables.merged.parts)) same
-          (both_with (λ (m : MergedParts). IsOpened (drop (length (made.matching.unmatched ++ freed_in made c.in_ok-merged.merged.parts.node)) m.parts.matching.unmatched) made (part_of m.parts))
+          (subst (λ x. IsOpened (drop (length (made.matching.unmatched ++ met_nodes made)) c.in_ok-tables.merged.parts.matching.unmatched) x (part_of c.in_ok-tables.merged.parts)) same
+          (both_with (λ (m : MergedParts). IsOpened (drop (length (made.matching.unmatched ++ met_nodes made)) m.parts.matching.unmatched) made (part_of m.parts))
           c.complete.result c.in_ok-tables.tables c.complete.new.merged c.in_ok-tables.merged c.in_ok-tables.ensures.0 c.in_ok-tables.ensures.1 c.complete.ensures.opened)),
     )
 
@@ -137,9 +140,9 @@ returns c =
     (merged_is (part_of c.into_parts-left.result) (part_of c.into_parts-right.result) c.args.node h.limits h.children h.one h.two h.matched h.also
     c.in_ok-merged.merged.link_names.items c.in_ok-merged.merged.names.items c.in_ok-merged.merged.parts.links c.in_ok-merged.merged.parts.blossoms c.in_ok-merged.ensures.links stores
     h.same_job
-    (drop (length (made.matching.unmatched ++ freed_in made c.in_ok-merged.merged.parts.node)) c.in_ok-tables.merged.parts.matching.unmatched) (part_of c.in_ok-tables.merged.parts)
+    (drop (length (made.matching.unmatched ++ met_nodes made)) c.in_ok-tables.merged.parts.matching.unmatched) (part_of c.in_ok-tables.merged.parts)
     (beside (part_of c.into_parts-left.result) (part_of c.into_parts-right.result) c.args.node h.limits h.children h.one h.two h.matched h.also
     c.in_ok-merged.merged.link_names.items c.in_ok-merged.merged.names.items c.in_ok-merged.merged.parts.links c.in_ok-merged.merged.parts.blossoms c.in_ok-merged.ensures.links stores)
-    (subst (λ x. IsOpened (drop (length (made.matching.unmatched ++ freed_in made c.in_ok-merged.merged.parts.node)) c.in_ok-tables.merged.parts.matching.unmatched) x (part_of c.in_ok-tables.merged.parts)) same
-    (both_with (λ (m : MergedParts). IsOpened (drop (length (made.matching.unmatched ++ freed_in made c.in_ok-merged.merged.parts.node)) m.parts.matching.unmatched) made (part_of m.parts))
+    (subst (λ x. IsOpened (drop (length (made.matching.unmatched ++ met_nodes made)) c.in_ok-tables.merged.parts.matching.unmatched) x (part_of c.in_ok-tables.merged.parts)) same
+    (both_with (λ (m : MergedParts). IsOpened (drop (length (made.matching.unmatched ++ met_nodes made)) m.parts.matching.unmatched) made (part_of m.parts))
     c.complete.result c.in_ok-tables.tables c.complete.new.merged c.in_ok-tables.merged c.in_ok-tables.ensures.0 c.in_ok-tables.ensures.1 c.complete.ensures.opened)))))

@@ -42,7 +42,7 @@ invariant_of-self c =
     kept_limits w.part c.graph.result.now c.plan.result.now c.node.result graph plan c.node.ensures c.limits.ensures in
     let at = end_taken w c.args.edge a _ (ap (λ g. g.edges) graph) c.free_end-taken.result c.free_end-taken.ensures in
     rw (c.absorb.ensures, nodes_taken w c.args.edge a _ (ap (λ g. g.edges) scope.graph)) (
-      record { graph = scope.graph; plan = scope.plan; node = scope.node },
+      record { graph = scope.graph; plan = scope.plan; node = scope.node; listed = scope.listed },
       searching_raised w c.args.edge a.from a.to a.name c.watch_taken.new.watch c.self.invariant.1 limits a.may
           c.keeps.ensures.within
           (kept_taken w.part c.graph.result.now c.plan.result.now c.node.result c.free_end-taken.result a.to _ _

@@ -6,7 +6,7 @@ invariant_of-self c =
     let may = rw (← c.self.view_is) at c.requires in
     let scope = c.self.invariant.0 in
     rw c.uncover.ensures (
-      record { graph = scope.graph; plan = scope.plan; node = scope.node },
+      record { graph = scope.graph; plan = scope.plan; node = scope.node; listed = scope.listed },
       searching_lowered _ c.args.node c.self.invariant.1 may.0 may.1,
     )
 
