@@ -17,29 +17,7 @@ use Rattle.fb_half.specs.declared.matches.Match.{Match}
 use Rattle.fb_half.specs.Matchings.{match_links}
 use Rattle.fb_half.specs.Parts.{IsPart, PartValue}
 use Rattle.fb_half.specs.Translations.{link_by, ring_links}
-
--- both ends of the step are among the first n vertices
-abbrev IsBelow : ℕ → Step → Type 0
-IsBelow n s = (s.from < n) × (s.to < n)
-
-step_below : (g : DecodingGraph) → IsGraph g → (s : Step) → s.edge < length g.edges → Leads (edge_at g.edges s.edge) s.from s.to
-    → IsBelow g.vertices s
-step_below g is s less (inl (first, second)) =
-    let e = is.each_edge s.edge no_edge less in
-    (subst (λ v. v < g.vertices) first e.first, subst (λ v. v < g.vertices) second e.second)
-step_below g is s less (inr (second, first)) =
-    let e = is.each_edge s.edge no_edge less in
-    (subst (λ v. v < g.vertices) second e.second, subst (λ v. v < g.vertices) first e.first)
-
-end_below : (n at : ℕ) (walk : List Step) → at < n → All (IsBelow n) walk → end_from at walk < n
-end_below n at [] less all = less
-end_below n at (s ∷ ss) less all = end_below n s.to ss (All-head (IsBelow n) s ss all).1 (All-tail (IsBelow n) s ss all)
-
-ends_below : (n : ℕ) (walk : List Step) → 0 < length walk → All (IsBelow n) walk → (start_of walk < n) × (end_of walk < n)
-ends_below n [] some all = absurd (omega (arith, some))
-ends_below n (s ∷ ss) some all =
-    let first = All-head (IsBelow n) s ss all in
-    (first.0, end_below n s.to ss first.1 (All-tail (IsBelow n) s ss all))
+use Rattle.fb_half.proofs.SeamOpenings.{step_below, walk_below}
 
 -- both ends of each match's link are vertices of the plan
 abbrev ArePlanned : PlanTree → List (Option (List Step)) → List Match → Type 0
@@ -75,7 +53,7 @@ module _ (w : PartValue) (part : IsPart w) where
       step (Some walk) at live =
           subst (λ k. AreEndsBelow k (walk_at w.links id)) (sym part.job.plan.count)
           (subst (λ o. AreEndsBelow w.job.graph.vertices (unwrap_or o [])) (sym at)
-          (ends_below w.job.graph.vertices walk (are id walk at).some
+          (walk_below w.job.graph.vertices walk (are id walk at).some
           (λ k e within.
           let is = (part.links.steps id walk at k e within).0 in
           step_below w.job.graph graph (get_or walk k e) is.within is.leads)))

@@ -1,7 +1,7 @@
 -- The index of two children's parts beside one another has all their matches to the boundary, and so it does once the seam
 -- is opened.
-use Rattle.std.proofs.Common.{ℕ, ◌≡◌, ◌≢◌, ◌&&◌, Bool, true, false, List, [], ◌∷◌, ◌++◌, map, All, Option, Some, None, is_some, refl, sym, ap, ◌∙◌, subst}
-use Rattle.std.proofs.lemmas.Bool.{and_from, and_parts, both_ways, eq-eqb, eqb-true, false_from_ne_true, false≢true}
+use Rattle.std.proofs.Common.{ℕ, ◌≡◌, ◌≢◌, ◌&&◌, true, false, List, [], ◌++◌, map, All, Option, Some, None, is_some, refl, sym, ap, ◌∙◌, subst}
+use Rattle.std.proofs.lemmas.Bool.{and_parts, both_ways, eq-eqb, eqb-true, false_from_ne_true, false≢true}
 use Rattle.std.proofs.lemmas.List.Elements.{All-append, All-map, All-nil}
 use Rattle.std.specs.Prelude.{Result, Ok, Err, OnOk}
 use Rattle.fb_graph.specs.Laws.{Link}
@@ -19,10 +19,10 @@ use Rattle.fb_blossoms.specs.Merged as merged
 use Rattle.fb_half.specs.declared.matches.Match.{Match}
 use Rattle.fb_half.specs.declared.parts.Parts.{Parts}
 use Rattle.fb_half.specs.declared.seams.Seams.{Seams}
-use Rattle.fb_half.specs.InternalSeams.{AreBesideListed, IsBeside, IsOpened, ends_at_seam, meets_seam}
+use Rattle.fb_half.specs.InternalSeams.{AreBesideListed, IsBeside, IsOpened, meets_seam}
 use Rattle.fb_half.specs.Matchings.{IsMatchOf, match_links}
 use Rattle.fb_half.specs.Merged.{is_alone, is_owned_by, renamed_match, renamed_second}
-use Rattle.fb_half.specs.Parts.{IsPart, PartValue, problem_in, shot_of}
+use Rattle.fb_half.specs.Parts.{IsPart, PartValue, problem_in}
 use Rattle.fb_half.specs.Seams.{AreListed, IsListed, far_end, names_under}
 use Rattle.fb_half.specs.Translations.{link_by}
 use Rattle.fb_half.specs.Values.{HasScope, IsScopeOf, part_of}
@@ -30,7 +30,7 @@ use Rattle.fb_half.proofs.AddedSingles.{Store}
 use Rattle.fb_half.proofs.BesideLinks.{link_left, link_right}
 use Rattle.fb_half.proofs.BesideMatchings.{far_left, far_right}
 use Rattle.fb_half.proofs.FarEnds.{far_is, seam_far}
-use Rattle.fb_half.proofs.MergedHalves.{before, beside, link, live_left, live_right, middle, name, names_apart, names_own, nest_beside, p, parts, q, whole}
+use Rattle.fb_half.proofs.MergedHalves.{before, beside, link, live_left, live_right, middle, name, names_apart, names_own, nest_beside, parts, q, whole}
 use Rattle.fb_half.proofs.SeamedLinks.{stays_among, stays_off}
 use Rattle.fb_half.proofs.SeamedMatchings.{link_is, still_unreal, was_match}
 use Rattle.fb_links.proofs.MovedLinks.{Table}

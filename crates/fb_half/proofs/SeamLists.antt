@@ -1,22 +1,16 @@
 -- The index of a part's matches to the boundary: what a merge of two leaves, and how a step of a search keeps it.
-use Rattle.std.proofs.Common.{ℕ, ◌≡◌, ◌==◌, ◌++◌, ◌⊎◌, inl, inr, Bool, true, false, cond, List, [], ◌∷◌, map, All, Option, Some, None, Vec, Global, option_map, nat_lt, if◌then◌else◌, refl, sym, ap, ◌∙◌, subst}
+use Rattle.std.proofs.Common.{ℕ, ◌≡◌, ◌==◌, ◌++◌, ◌⊎◌, inl, inr, Bool, true, false, cond, List, [], ◌∷◌, map, Some, Vec, Global, option_map, nat_lt, if◌then◌else◌, refl, sym, ap, ◌∙◌}
 use Rattle.std.specs.Option.{unwrap_or}
 use Rattle.std.specs.Map.{lookup}
 use Rattle.std.specs.BTreeMap.{is_at}
 use Rattle.std.specs.Ordering.{is_eq, nat_cmp}
 use Rattle.std.specs.declared.cmp.Ordering.TheVariants.{Less, Equal, Greater}
-use Rattle.std.proofs.lemmas.Bool.{eq-eqb, eqb-true, false≢true, or_left, or_right}
+use Rattle.std.proofs.lemmas.Bool.{eq-eqb, eqb-true, false≢true}
 use Rattle.fb_graph.specs.Parity.{is_in}
-use Rattle.fb_graph.proofs.Among.{IsAmong, All_among, among_All}
 use Rattle.fb_graph.proofs.Floods.{is_in-left, is_in-right}
-use Rattle.fb_graph.proofs.Members.{is_in-map, is_in_pushed}
-use Rattle.fb_links.proofs.MovedLinks.{Table}
-use Rattle.fb_plan.specs.Plans.{PlanTree, owner_of}
-use Rattle.fb_plan.specs.Vertices.{is_node}
-use Rattle.fb_half.specs.declared.matches.Match.{Match}
+use Rattle.fb_graph.proofs.Members.{is_in-map}
 use Rattle.fb_half.specs.declared.seams.Seams.{Seams}
-use Rattle.fb_half.specs.Seams.{AreListed, IsListed, far_end, names_under}
-use Rattle.fb_half.specs.Translations.{link_by}
+use Rattle.fb_half.specs.Seams.{names_under}
 
 -- the names under the owner in the entries that are left
 abbrev pub names_in : List (ℕ × Vec ℕ Global) → ℕ → List ℕ

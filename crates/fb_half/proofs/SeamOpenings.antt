@@ -24,9 +24,9 @@ use Rattle.fb_links.specs.Table.{IsLink, is_live as is_link, link_at, walk_at}
 use Rattle.fb_links.specs.Walks.{end_from, end_of, start_of}
 use Rattle.fb_blossoms.specs.Nodes as blossoms
 use Rattle.fb_half.specs.declared.matches.Match.{Match}
-use Rattle.fb_half.specs.InternalSeams.{AddsSingles, AreBesideListed, IsBeside, IsFreed, IsOpened, ends_at_seam, meets_seam, met_matches, met_nodes}
+use Rattle.fb_half.specs.InternalSeams.{AddsSingles, IsBeside, IsFreed, IsOpened, meets_seam, met_matches, met_nodes}
 use Rattle.fb_half.specs.Matchings.{MatchingValue, listed_names, match_links, matched_names, names_of}
-use Rattle.fb_half.specs.Merged.{IsPlanned, is_alone, is_owned_by, seam_defects}
+use Rattle.fb_half.specs.Merged.{IsPlanned, is_owned_by, seam_defects}
 use Rattle.fb_half.specs.Parts.{AreAgreed, PartValue, problem_in, shot_of}
 use Rattle.fb_half.specs.Translations.{children_at, link_by, ring_links}
 use Rattle.fb_half.proofs.BegunParts.{kept_real, shot_below}
@@ -35,7 +35,7 @@ use Rattle.fb_half.proofs.FreedMatches.{first_listed, firsts, link_in}
 use Rattle.fb_links.proofs.MovedLinks.{Table}
 
 -- a step along an edge of the graph has both its ends among the vertices
-step_below : (g : DecodingGraph) → IsGraph g → (s : Step) → s.edge < length g.edges → Leads (edge_at g.edges s.edge) s.from s.to
+pub step_below : (g : DecodingGraph) → IsGraph g → (s : Step) → s.edge < length g.edges → Leads (edge_at g.edges s.edge) s.from s.to
     → (s.from < g.vertices) × (s.to < g.vertices)
 step_below g is s less (inl (first, second)) =
     let e = is.each_edge s.edge no_edge less in
@@ -48,7 +48,8 @@ end_below : (n at : ℕ) (walk : List Step) → at < n → All (λ s. (s.from < 
 end_below n at [] less all = less
 end_below n at (s ∷ ss) less all = end_below n s.to ss (All-head (λ x. (x.from < n) × (x.to < n)) s ss all).1 (All-tail (λ x. (x.from < n) × (x.to < n)) s ss all)
 
-walk_below : (n : ℕ) (walk : List Step) → 0 < length walk → All (λ s. (s.from < n) × (s.to < n)) walk → (start_of walk < n) × (end_of walk < n)
+-- so do the ends of a walk
+pub walk_below : (n : ℕ) (walk : List Step) → 0 < length walk → All (λ s. (s.from < n) × (s.to < n)) walk → (start_of walk < n) × (end_of walk < n)
 walk_below n [] some all = absurd (omega (arith, some))
 walk_below n (s ∷ ss) some all =
     let first = All-head (λ x. (x.from < n) × (x.to < n)) s ss all in

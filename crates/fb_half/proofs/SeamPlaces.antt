@@ -1,5 +1,5 @@
 -- The places of the elements that pass a test, in order: the elements there are those that a filter keeps.
-use Rattle.std.proofs.Common.{ℕ, zero, suc, ◌≡◌, ◌+◌, ◌<◌, ◌==◌, ◌++◌, ◌⊎◌, inl, inr, Bool, true, false, List, [], ◌∷◌, cond, eqb, map, length, get_or, take, Contains, IfSome, Option, Some, None, option_to_list, refl, sym, ap, ◌∙◌, subst, arith}
+use Rattle.std.proofs.Common.{ℕ, suc, ◌≡◌, ◌+◌, ◌<◌, ◌==◌, ◌++◌, ◌⊎◌, inl, inr, Bool, true, false, List, [], ◌∷◌, cond, eqb, map, length, get_or, take, Contains, IfSome, Option, Some, None, option_to_list, refl, sym, ap, ◌∙◌, subst, arith}
 use Rattle.std.specs.List.{dedup, filter, range_with_len}
 use Rattle.std.specs.List.Sorted.{IsPermutation, IsStrictlyIncreasing}
 use Rattle.std.proofs.lemmas.List.{get_or_default, map-append, take_more}
@@ -142,9 +142,9 @@ pub sorted_found : (test : Match → Bool) (matches : List Match) (listed found 
     → IsPermutation found sorted → places ≡ dedup eqb sorted → AreFound test matches listed places
 sorted_found test matches listed found sorted places (pass, each) moved is = (
   λ k h. pass k (Contains_in found k (Contains-permutation sorted found k (IsPermutation-sym found sorted moved)
-  (Contains-from_dedup eqb sorted k (in_Contains (dedup eqb sorted) k (sym (ap (λ l. is_in l k) is) ∙ h))))),
+      (Contains-from_dedup eqb sorted k (in_Contains (dedup eqb sorted) k (sym (ap (λ l. is_in l k) is) ∙ h))))),
   λ k within passes h. ap (λ l. is_in l k) is
-  ∙ Contains_in (dedup eqb sorted) k (Contains-dedup_nat sorted k (Contains-permutation found sorted k moved (in_Contains found k (each k within passes h)))),
+      ∙ Contains_in (dedup eqb sorted) k (Contains-dedup_nat sorted k (Contains-permutation found sorted k moved (in_Contains found k (each k within passes h)))),
 )
 
 -- the first node of the match at the next place

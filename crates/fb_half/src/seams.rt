@@ -41,12 +41,7 @@ impl Seams {
     }
 
     /// Lists the node under the owner, if there is one.
-    pub fn list(
-        &mut self,
-        alloc: Global,
-        owner: Option<u32>,
-        name: NodeId,
-    ) -> Result<(), NoMemory>
+    pub fn list(&mut self, alloc: Global, owner: Option<u32>, name: NodeId) -> Result<(), NoMemory>
         ensures { OnOk result ((o : ℕ) → names_under self.new o
             ≡ (if is_node o owner then names_under self.old o ++ name ∷ [] else names_under self.old o)) }
     {

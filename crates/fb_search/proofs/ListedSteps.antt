@@ -3,7 +3,6 @@
 use Rattle.std.proofs.Common.{ℕ, ◌≡◌, ◌<◌, ◌==◌, ◌⊎◌, inl, inr, true, false, List, [], ◌∷◌, ◌++◌, cond, if◌then◌else◌, length, map, get_or, Bool, All, Option, Some, None, is_some, unwrap_or, refl, sym, ap, ◌∙◌, subst, arith}
 use Rattle.std.specs.List.Sorted.{IsPermutation}
 use Rattle.std.proofs.lemmas.Bool.{eq-eqb, false≢true}
-use Rattle.std.proofs.lemmas.List.Elements.{All-head, All-tail}
 use Rattle.fb_graph.specs.Certificate.{AreDistinct}
 use Rattle.fb_graph.specs.Components.{Leads}
 use Rattle.fb_graph.specs.Laws.{Link}
@@ -23,7 +22,7 @@ use Rattle.fb_plan.specs.Vertices.{is_node}
 use Rattle.fb_plan.specs.declared.scope.NodeScope.{NodeScope}
 use Rattle.fb_links.specs.declared.walk.Step.{Step}
 use Rattle.fb_links.specs.Table.{Adds, link_at, walk_at}
-use Rattle.fb_links.specs.Walks.{end_from, end_of, start_of}
+use Rattle.fb_links.specs.Walks.{end_of, start_of}
 use Rattle.fb_links.proofs.MovedLinks.{Table}
 use Rattle.fb_half.specs.declared.matches.Match.{Match}
 use Rattle.fb_half.specs.declared.parts.Parts.{Parts}
@@ -35,6 +34,7 @@ use Rattle.fb_half.specs.Seams.{AreListed, IsListed, far_end, names_under}
 use Rattle.fb_half.specs.Translations.{link_by, link_of, ring_links}
 use Rattle.fb_half.specs.Values.{HasScope, IsScopeOf, part_of}
 use Rattle.fb_half.proofs.FreedMatches.{among_permuted, link_in}
+use Rattle.fb_half.proofs.SeamOpenings.{walk_below}
 use Rattle.fb_search.specs.InternalEndings.{Forgets, all_matches, beside_match, ended_matches, path_match}
 use Rattle.fb_search.specs.InternalSearching.{IsSearching, SearchValue, problem_of, searched_links}
 use Rattle.fb_search.proofs.EndedCases.{links_counted}
@@ -92,7 +92,7 @@ listed_made w s new link walk after are adds among listed =
 pub taken_among : (before after : List Match) (taken m : Match) → IsPermutation before (taken ∷ after) → IsAmong m after → IsAmong m before
 taken_among before after taken m moved a = among_permuted before (taken ∷ after) m moved (inr a)
 
-no_second : (m : Match) (b : ℕ) → Some b ≡ m.second → m.second ≡ None → ⊥
+pub no_second : (m : Match) (b : ℕ) → Some b ≡ m.second → m.second ≡ None → ⊥
 no_second m b is none = let clash : Some b ≡ None = is ∙ none in cc
 
 -- no match of a tree's nodes leads to the boundary
@@ -120,7 +120,7 @@ listed_ended real t s old new before kept tree name out listed stays last =
     kept_listed = listed_kept real t s old new before kept listed (λ m a none. stays m a)
 
     ends : (m : Match) → IsAmong m (ended_matches tree name) ⊎ IsAmong m (out ∷ []) → IsListed real t s new m
-    ends m (inl a) owner none at = absurd (ended_paired tree name m a none)
+    ends m (inl a) = λ owner none at. absurd (ended_paired tree name m a none)
     ends m (inr (inl same)) = subst (IsListed real t s new) same last
     ends m (inr (inr none)) = absurd none
 
@@ -129,7 +129,7 @@ listed_ended real t s old new before kept tree name out listed stays last =
     by m (inr a) = ends m (among_either (ended_matches tree name) (out ∷ []) m a)
 
 -- the other node of a match that ends a search
-paired_listed : (real : ℕ → Bool) (t : PlanTree) (s : Seams) (new : Table) (link name other : ℕ) → IsListed real t s new (met_match link name other)
+pub paired_listed : (real : ℕ → Bool) (t : PlanTree) (s : Seams) (new : Table) (link name other : ℕ) → IsListed real t s new (met_match link name other)
 paired_listed real t s new link name other owner none at = absurd (let clash : Some other ≡ None = none in cc)
 
 -- the index lists this name under this owner too
@@ -258,12 +258,7 @@ module _ (w : PartValue) (link : ℕ) (walk : List Step) (new : Table) (are : Is
       (listed_more (problem_in w).is_real w.job.plan s after w.links w.matching.matches owner name lists listed) near_stays
       (last_listed (problem_in w).is_real w.job.plan s after new owner link name lists is)
 
--- the ends of a walk along edges of the problem are vertices of it
-end_within : (n at : ℕ) (walk : List Step) → at < n → All (λ s. (s.from < n) × (s.to < n)) walk → end_from at walk < n
-end_within n at [] less all = less
-end_within n at (s ∷ ss) less all =
-    end_within n s.to ss (All-head (λ x. (x.from < n) × (x.to < n)) s ss all).1 (All-tail (λ x. (x.from < n) × (x.to < n)) s ss all)
-
+-- a step along an edge of the problem has both its ends among the vertices
 step_within : (p : Problem) → IsWithinLimits p → (s : Step) → s.edge < length p.edges → Leads (edge_at p.edges s.edge) s.from s.to
     → (s.from < p.vertices) × (s.to < p.vertices)
 step_within p limits s less (inl (first, second)) =
@@ -273,18 +268,12 @@ step_within p limits s less (inr (second, first)) =
     let e = limits.each_edge s.edge no_edge less in
     (subst (λ v. v < p.vertices) second e.second, subst (λ v. v < p.vertices) first e.first)
 
-walk_within : (n : ℕ) (walk : List Step) → 0 < length walk → All (λ s. (s.from < n) × (s.to < n)) walk → (start_of walk < n) × (end_of walk < n)
-walk_within n [] some all = absurd (omega (arith, some))
-walk_within n (s ∷ ss) some all =
-    let first = All-head (λ x. (x.from < n) × (x.to < n)) s ss all in
-    (first.0, end_within n s.to ss first.1 (All-tail (λ x. (x.from < n) × (x.to < n)) s ss all))
-
 pub made_planned : (t : PlanTree) (p : Problem) (old new : Table) (link : ℕ) (walk : List Step) → IsWithinLimits p → length t.owners ≡ p.vertices
     → Adds old new link walk → 0 < length walk → AreStepsOf p walk → IsPlanned t (link_by new link)
 made_planned t p old new link walk limits count adds some steps =
     subst (λ k. (start_of (walk_at new link) < k) × (end_of (walk_at new link) < k)) (sym count)
     (subst (λ o. (start_of (unwrap_or o []) < p.vertices) × (end_of (unwrap_or o []) < p.vertices)) (sym adds.added)
-    (walk_within p.vertices walk some
+    (walk_below p.vertices walk some
     (λ i d less. let is = (steps i d less).0 in step_within p limits (get_or walk i d) is.within is.leads)))
 
 -- what is asked where the owner of a new link's end is read

@@ -4,8 +4,6 @@ use Rattle.fb_graph.specs.RenamedNodes.{renamed_nodes}
 use Rattle.fb_links.specs.Merged.{AreMerged}
 use Rattle.fb_links.specs.Names.{name_by}
 use Rattle.fb_blossoms.specs.Merged as merged
-use Rattle.fb_half.specs.declared.seams.Seams.{Seams}
-use Rattle.fb_half.specs.Matchings.{MatchingValue}
 use Rattle.fb_half.specs.Seams.{names_under}
 use Rattle.fb_half.proofs.DoneSteps.{made_holds}
 use Rattle.fb_half.proofs.merging.merged_parts.Goals as goal

@@ -1,4 +1,4 @@
-use Rattle.std.proofs.Common.{ℕ, ◌≡◌, ◌<◌, ◌+◌, true, false, Bool, List, get_or, length, take, ap, refl, sym, ◌∙◌, subst, arith}
+use Rattle.std.proofs.Common.{◌≡◌, true, Bool, get_or, take, ap, refl, sym, ◌∙◌}
 use Rattle.std.proofs.lemmas.Bool.{false≢true}
 use Rattle.std.proofs.lemmas.List.{take_all}
 use Rattle.std.proofs.lemmas.List.Filters.{dedup_is}
@@ -9,7 +9,7 @@ use Rattle.fb_half.specs.declared.matches.Match.{Match}
 use Rattle.fb_half.specs.InternalSeams.{meets_seam}
 use Rattle.fb_half.specs.InternalStandings.{no_match}
 use Rattle.fb_half.proofs.FreedMatches.{at_among}
-use Rattle.fb_half.proofs.SeamPlaces.{AreFound, found_more, sorted_found}
+use Rattle.fb_half.proofs.SeamPlaces.{found_more, sorted_found}
 use Rattle.fb_half.proofs.merging.seam_places.Goals as goal
 
 pub loop-name-init : goal.loop-name-init

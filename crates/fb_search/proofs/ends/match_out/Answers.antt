@@ -17,11 +17,8 @@ link_out-requires c =
       out_bare w.part _ (scope_is _ c.requires.scope) c.args.edge c.args.plus leads.outer (leads_out w c.args.edge c.args.plus leads),
     )
 
-pub far_owner-requires-clause-live : goal.far_owner-requires-clause-live
-far_owner-requires-clause-live c = ap is_some c.in_ok-link.ensures.adds.added
-
-pub far_owner-requires-clause-ends : goal.far_owner-requires-clause-ends
-far_owner-requires-clause-ends c =
+pub far_owner-owner-requires-clause-ends : goal.far_owner-owner-requires-clause-ends
+far_owner-owner-requires-clause-ends c =
     let w : SearchValue = search_of c.args.pieces.now in
     let leads = c.requires.leads in
     let made = c.in_ok-link.ensures in
@@ -31,18 +28,6 @@ far_owner-requires-clause-ends c =
     (far_asked w.part c.scope-2.result.now w.part.links c.link_out.new.links c.in_ok-link.link made.walk
     (subst (λ s. IsScopeOf s w.part) (sym c.scope-2.ensures) is) c.requires.search.job
     (limits_scoped w.part _ c.scope.result.now c.scope.ensures is c.limits.ensures) made.adds outs.some outs.steps).0
-
-pub far_owner-requires-clause-vertices : goal.far_owner-requires-clause-vertices
-far_owner-requires-clause-vertices c =
-    let w : SearchValue = search_of c.args.pieces.now in
-    let leads = c.requires.leads in
-    let made = c.in_ok-link.ensures in
-    let is = scope_is _ c.requires.scope in
-    let outs =
-    (out_scoped w.part _ is c.args.edge c.args.plus leads.outer made.walk (leads_out w c.args.edge c.args.plus leads) made.out).walk_is in
-    (far_asked w.part c.scope-2.result.now w.part.links c.link_out.new.links c.in_ok-link.link made.walk
-    (subst (λ s. IsScopeOf s w.part) (sym c.scope-2.ensures) is) c.requires.search.job
-    (limits_scoped w.part _ c.scope.result.now c.scope.ensures is c.limits.ensures) made.adds outs.some outs.steps).1
 
 pub match_tree-requires-clause-plus : goal.match_tree-requires-clause-plus
 match_tree-requires-clause-plus c =

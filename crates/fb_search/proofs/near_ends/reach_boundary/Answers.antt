@@ -31,11 +31,8 @@ link_out-requires c =
     limits_scoped part scope c.scope.result.now c.scope.ensures (scope_is _ c.requires.scope) c.limits.ensures in
     rw c.grow_node.ensures (boundary_out part c.args.root c.args.edge c.args.length c.requires.part limits c.requires.unmatched c.requires.near scope (scope_is _ c.requires.scope))
 
-pub far_owner-requires-clause-live : goal.far_owner-requires-clause-live
-far_owner-requires-clause-live c = ap is_some c.in_ok-link.ensures.adds.added
-
-pub far_owner-requires-clause-ends : goal.far_owner-requires-clause-ends
-far_owner-requires-clause-ends c =
+pub far_owner-owner-requires-clause-ends : goal.far_owner-owner-requires-clause-ends
+far_owner-owner-requires-clause-ends c =
     let part : PartValue = part_of c.args.parts.now in
     let scope = c.args.parts.now.regions.scope in
     let own = scope_is _ c.requires.scope in
@@ -48,21 +45,6 @@ far_owner-requires-clause-ends c =
     (far_asked part c.scope-2.result.now part.links c.link_out.new.links c.in_ok-link.link made.walk
     (subst (λ s. IsScopeOf s part) (sym (c.scope-2.ensures ∙ ap (λ r. r.scope) c.grow_node.ensures)) own) c.requires.part.job limits made.adds
     outs.some outs.steps).0
-
-pub far_owner-requires-clause-vertices : goal.far_owner-requires-clause-vertices
-far_owner-requires-clause-vertices c =
-    let part : PartValue = part_of c.args.parts.now in
-    let scope = c.args.parts.now.regions.scope in
-    let own = scope_is _ c.requires.scope in
-    let limits : IsWithinLimits (problem_in part) =
-    limits_scoped part scope c.scope.result.now c.scope.ensures own c.limits.ensures in
-    let made = rw c.grow_node.ensures at c.in_ok-link.ensures in
-    let outs =
-    (boundary_walk part c.args.root c.args.edge c.args.length c.requires.part limits c.requires.unmatched c.requires.near scope
-    own made.walk made.out).walk_is in
-    (far_asked part c.scope-2.result.now part.links c.link_out.new.links c.in_ok-link.link made.walk
-    (subst (λ s. IsScopeOf s part) (sym (c.scope-2.ensures ∙ ap (λ r. r.scope) c.grow_node.ensures)) own) c.requires.part.job limits made.adds
-    outs.some outs.steps).1
 
 pub add_matches-requires : goal.add_matches-requires
 add_matches-requires c =
