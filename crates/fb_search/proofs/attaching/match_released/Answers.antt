@@ -30,10 +30,15 @@ returns c w met =
     c.forget.new.self c.forget_tree.new.links c.match_tree.new.matching c.forget.ensures c.in_ok-forget_tree.ensures
     c.in_ok-match_tree.ensures in
     record {
-      scope = record { graph = scope.graph; plan = scope.plan; node = scope.node; listed = 
-          released_listed w c.args.met _ met c.requires.boundary c.args.pieces.now.parts.seams scope.listed c.take_unmatched.new.self
-          c.take_unmatched.ensures.matches c.forget.new.self c.forget_tree.new.links c.match_tree.new.matching c.forget.ensures
-          c.in_ok-forget_tree.ensures c.in_ok-match_tree.ensures };
+      scope = record {
+        graph = scope.graph;
+        plan = scope.plan;
+        node = scope.node;
+        listed =
+            released_listed w c.args.met _ met c.requires.boundary c.args.pieces.now.parts.seams scope.listed c.take_unmatched.new.self
+            c.take_unmatched.ensures.matches c.forget.new.self c.forget_tree.new.links c.match_tree.new.matching c.forget.ensures
+            c.in_ok-forget_tree.ensures c.in_ok-match_tree.ensures;
+      };
       part = released.0;
       ends = record { searched = released.1; room = ap (λ s. s.watched.edge_count) met.is };
     }

@@ -19,9 +19,14 @@ join_cycle-requires c =
     let scope = c.requires.scope in
     let made = c.in_ok-closing.ensures in
     record {
-      scope = record { graph = scope.graph; plan = scope.plan; node = scope.node; listed = 
-          listed_made w c.args.pieces.now.parts.seams c.link_between.new.links c.in_ok-closing.closing made.walk w.part.matching.matches c.requires.search
-          made.adds (λ m a. a) scope.listed };
+      scope = record {
+        graph = scope.graph;
+        plan = scope.plan;
+        node = scope.node;
+        listed =
+            listed_made w c.args.pieces.now.parts.seams c.link_between.new.links c.in_ok-closing.closing made.walk w.part.matching.matches c.requires.search
+            made.adds (λ m a. a) scope.listed;
+      };
       closes = link_closes w c.args.edge c.args.first c.args.second c.requires.pair made.walk c.in_ok-closing.closing
           c.link_between.new.links c.requires.search made.adds
           (met_scoped w.part _ (scope_is _ scope) c.args.edge c.args.first c.args.second made.walk

@@ -86,8 +86,13 @@ returns c =
     (rw (c.root-root.ensures, c.root.ensures) at replaced) c.watch_minus.new.watch c.watch_minus.ensures
     c.keeps.ensures.within in
     record {
-      scope = record { graph = scope.graph; plan = scope.plan; node = scope.node; listed = 
-          subst (AreListed (problem_of w).is_real w.part.job.plan c.args.pieces.now.parts.seams w.part.links) (sym replaced.matches) scope.listed };
+      scope = record {
+        graph = scope.graph;
+        plan = scope.plan;
+        node = scope.node;
+        listed =
+            subst (AreListed (problem_of w).is_real w.part.job.plan c.args.pieces.now.parts.seams w.part.links) (sym replaced.matches) scope.listed;
+      };
       keeps = both.0;
       goes_on = both.1;
     }) c.replace_unmatched.ensures)

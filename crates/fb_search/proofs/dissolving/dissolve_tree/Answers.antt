@@ -32,9 +32,14 @@ returns c =
     let scope = c.requires.scope in
     rw (c.in_ok-add_matches.ensures, c.deref.ensures.value, c.in_ok-matches.ensures, c.root-root.ensures)
     (record {
-      scope = record { graph = scope.graph; plan = scope.plan; node = scope.node; listed = 
-          left_listed w c.args.pieces.now.parts.seams c.forget_tree.new.links c.requires.search (rw c.root-root.ensures at c.in_ok-forget_tree.ensures)
-          scope.listed };
+      scope = record {
+        graph = scope.graph;
+        plan = scope.plan;
+        node = scope.node;
+        listed =
+            left_listed w c.args.pieces.now.parts.seams c.forget_tree.new.links c.requires.search (rw c.root-root.ensures at c.in_ok-forget_tree.ensures)
+            scope.listed;
+      };
       part = part_is_left w c.forget_tree.new.links c.requires.search (rw c.root-root.ensures at c.in_ok-forget_tree.ensures)
           c.requires.even;
       dissolved = record {

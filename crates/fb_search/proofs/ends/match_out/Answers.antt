@@ -1,4 +1,4 @@
-use Rattle.std.proofs.Common.{◌∙◌, ap, is_some, refl, subst, sym}
+use Rattle.std.proofs.Common.{◌∙◌, refl, subst, sym}
 use Rattle.fb_half.specs.Translations.{link_by}
 use Rattle.fb_half.specs.Values.{IsScopeOf}
 use Rattle.fb_search.specs.InternalSearching.{SearchValue, search_of}
@@ -67,12 +67,17 @@ returns c =
     made.out) made.adds c.in_ok-forget_tree.ensures in
     rw (c.in_ok-match_tree.ensures, c.take_unmatched.ensures.matches)
     (record {
-      scope = record { graph = scope.graph; plan = scope.plan; node = scope.node; listed = 
-          out_listed w c.args.plus c.in_ok-link.link made.walk c.link_out.new.links c.forget_tree.new.links c.requires.search made.adds
-          c.in_ok-forget_tree.ensures c.args.pieces.now.parts.seams c.list.new.self c.far_owner-owner.result scope.listed c.in_ok-list.ensures
-          (c.far_owner-owner.ensures
-          ∙ owner_scoped c.scope-2.result.now w.part (link_by c.link_out.new.links c.in_ok-link.link)
-          (subst (λ s. IsScopeOf s w.part) (sym c.scope-2.ensures) (scope_is _ scope))) };
+      scope = record {
+        graph = scope.graph;
+        plan = scope.plan;
+        node = scope.node;
+        listed =
+            out_listed w c.args.plus c.in_ok-link.link made.walk c.link_out.new.links c.forget_tree.new.links c.requires.search made.adds
+            c.in_ok-forget_tree.ensures c.args.pieces.now.parts.seams c.list.new.self c.far_owner-owner.result scope.listed c.in_ok-list.ensures
+            (c.far_owner-owner.ensures
+            ∙ owner_scoped c.scope-2.result.now w.part (link_by c.link_out.new.links c.in_ok-link.link)
+            (subst (λ s. IsScopeOf s w.part) (sym c.scope-2.ensures) (scope_is _ scope)));
+      };
       part = ended.0;
       ends = record { searched = ended.1; room = refl };
     })

@@ -58,9 +58,14 @@ returns c =
     c.requires.unmatched made.adds c.in_ok-forget_tree.ensures in
     rw (c.in_ok-match_tree.ensures, c.take_unmatched-2.ensures.matches, c.take_unmatched.ensures.matches)
     (record {
-      scope = record { graph = scope.graph; plan = scope.plan; node = scope.node; listed = 
-          met_listed w c.args.plus c.in_ok-link.link made.walk c.link_between.new.links c.forget_tree.new.links c.requires.search made.adds
-          c.in_ok-forget_tree.ensures c.args.other c.args.pieces.now.parts.seams scope.listed };
+      scope = record {
+        graph = scope.graph;
+        plan = scope.plan;
+        node = scope.node;
+        listed =
+            met_listed w c.args.plus c.in_ok-link.link made.walk c.link_between.new.links c.forget_tree.new.links c.requires.search made.adds
+            c.in_ok-forget_tree.ensures c.args.other c.args.pieces.now.parts.seams scope.listed;
+      };
       part = ended.0;
       ends = record { searched = ended.1; room = refl };
     })

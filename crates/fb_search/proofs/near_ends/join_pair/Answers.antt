@@ -80,9 +80,14 @@ returns c =
     made.between) made.adds in
     rw (c.grow_node-2.ensures, c.grow_node.ensures, c.in_ok-add_matches.ensures, c.take_unmatched-2.ensures.matches, c.take_unmatched.ensures.matches)
     (record {
-      scope = record { graph = own.graph; plan = own.plan; node = own.node; listed =
-          near_met_listed part c.in_ok-link.link made.walk c.link_between.new.links c.requires.part made.adds c.args.root c.args.pair.other
-          c.args.parts.now.seams c.requires.scope.listed };
+      scope = record {
+        graph = own.graph;
+        plan = own.plan;
+        node = own.node;
+        listed =
+            near_met_listed part c.in_ok-link.link made.walk c.link_between.new.links c.requires.part made.adds c.args.root c.args.pair.other
+            c.args.parts.now.seams c.requires.scope.listed;
+      };
       part = matched.0;
       searched = matched.1;
     })

@@ -1,4 +1,4 @@
-use Rattle.std.proofs.Common.{◌∙◌, ap, is_some, subst, sym}
+use Rattle.std.proofs.Common.{◌∙◌, ap, subst, sym}
 use Rattle.fb_graph.specs.Limits.{IsWithinLimits}
 use Rattle.fb_half.specs.Parts.{PartValue, problem_in}
 use Rattle.fb_half.specs.Translations.{link_by}
@@ -71,12 +71,17 @@ returns c =
     own made.walk made.out) made.adds in
     rw (c.grow_node.ensures, c.in_ok-add_matches.ensures, c.take_unmatched.ensures.matches)
     (record {
-      scope = record { graph = own.graph; plan = own.plan; node = own.node; listed =
-          near_out_listed part c.in_ok-link.link made.walk c.link_out.new.links c.requires.part made.adds c.args.root c.args.parts.now.seams c.list.new.self
-          c.far_owner-owner.result c.requires.scope.listed c.in_ok-list.ensures
-          (c.far_owner-owner.ensures
-          ∙ owner_scoped c.scope-2.result.now part (link_by c.link_out.new.links c.in_ok-link.link)
-          (subst (λ s. IsScopeOf s part) (sym (c.scope-2.ensures ∙ ap (λ r. r.scope) c.grow_node.ensures)) own)) };
+      scope = record {
+        graph = own.graph;
+        plan = own.plan;
+        node = own.node;
+        listed =
+            near_out_listed part c.in_ok-link.link made.walk c.link_out.new.links c.requires.part made.adds c.args.root c.args.parts.now.seams c.list.new.self
+            c.far_owner-owner.result c.requires.scope.listed c.in_ok-list.ensures
+            (c.far_owner-owner.ensures
+            ∙ owner_scoped c.scope-2.result.now part (link_by c.link_out.new.links c.in_ok-link.link)
+            (subst (λ s. IsScopeOf s part) (sym (c.scope-2.ensures ∙ ap (λ r. r.scope) c.grow_node.ensures)) own));
+      };
       part = matched.0;
       searched = matched.1;
     })

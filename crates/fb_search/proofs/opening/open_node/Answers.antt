@@ -182,9 +182,14 @@ returns c =
     (added : c.add_matches.new.matching
     ≡ record { matches = w.part.matching.matches ++ c.deref-5.result.now; unmatched = w.part.matching.unmatched }).
     rw (added, matches) (record {
-      scope = record { graph = scope.graph; plan = scope.plan; node = scope.node; listed = 
-          opened_listed w c.args.node e c.child_at-above.result c.child_at-below.result c.requires.search opens
-          c.forget_all.new.links c.open_up-cycle.new.self c.replace.new.self c.watch_plus.new.watch has c.args.pieces.now.parts.seams scope.listed };
+      scope = record {
+        graph = scope.graph;
+        plan = scope.plan;
+        node = scope.node;
+        listed =
+            opened_listed w c.args.node e c.child_at-above.result c.child_at-below.result c.requires.search opens
+            c.forget_all.new.links c.open_up-cycle.new.self c.replace.new.self c.watch_plus.new.watch has c.args.pieces.now.parts.seams scope.listed;
+      };
       keeps = searching_opened w c.args.node e c.child_at-above.result c.child_at-below.result c.requires.search opens
           c.forget_all.new.links c.open_up-cycle.new.self c.replace.new.self c.watch_plus.new.watch limits has;
       goes_on = goes_on_opened w c.args.node e c.child_at-above.result c.child_at-below.result c.requires.search opens

@@ -14,9 +14,14 @@ pub join_cycle-requires : goal.join_cycle-requires
 join_cycle-requires c =
     let scope = c.requires.scope in
     record {
-      scope = record { graph = scope.graph; plan = scope.plan; node = scope.node; listed = 
-          listed_made (search_of c.args.pieces.now) c.args.pieces.now.parts.seams c.join_ends.new.self c.in_ok-closing.closing _
-          c.args.pieces.now.parts.matching.matches c.requires.search c.in_ok-closing.ensures.ok (λ m a. a) scope.listed };
+      scope = record {
+        graph = scope.graph;
+        plan = scope.plan;
+        node = scope.node;
+        listed =
+            listed_made (search_of c.args.pieces.now) c.args.pieces.now.parts.seams c.join_ends.new.self c.in_ok-closing.closing _
+            c.args.pieces.now.parts.matching.matches c.requires.search c.in_ok-closing.ensures.ok (λ m a. a) scope.listed;
+      };
       closes = rounded_closes _ _ _ _ (rounding _ _ _ c.requires.search c.requires.zero.1 c.branch-branch.ensures)
           c.in_ok-closing.ensures.ok c.requires.search;
     }
