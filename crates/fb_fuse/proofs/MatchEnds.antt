@@ -1,18 +1,15 @@
 -- The links of a part's matches are in the table, and their ends are vertices of the plan.
-use Rattle.std.proofs.Common.{ℕ, ◌≡◌, ◌<◌, inl, inr, true, List, [], ◌∷◌, length, get_or, All, Option, Some, None, is_some, unwrap_or, refl, sym, ap, ◌∙◌, subst, arith}
+use Rattle.std.proofs.Common.{ℕ, ◌≡◌, ◌<◌, true, List, [], length, get_or, All, Option, Some, None, is_some, unwrap_or, refl, sym, ap, ◌∙◌, subst, arith}
 use Rattle.std.proofs.lemmas.Bool.{false≢true, or_left}
 use Rattle.std.proofs.lemmas.List.{get_or-map, length-map}
-use Rattle.std.proofs.lemmas.List.Elements.{All-head, All-tail}
 use Rattle.fb_graph.specs.Parity.{is_in}
-use Rattle.fb_graph.specs.Problem.{edge_at, no_edge}
-use Rattle.fb_graph.specs.Components.{Leads}
 use Rattle.fb_graph.specs.Limits.{DecodingGraph, IsGraph}
 use Rattle.fb_graph.proofs.Members.{is_in-append}
 use Rattle.fb_graph.proofs.Sets.{is_in_at}
 use Rattle.fb_plan.specs.Plans.{PlanTree}
 use Rattle.fb_links.specs.declared.walk.Step.{Step}
 use Rattle.fb_links.specs.Table.{IsLink, is_live, link_at, walk_at}
-use Rattle.fb_links.specs.Walks.{end_from, end_of, start_of}
+use Rattle.fb_links.specs.Walks.{end_of, start_of}
 use Rattle.fb_half.specs.declared.matches.Match.{Match}
 use Rattle.fb_half.specs.Matchings.{match_links}
 use Rattle.fb_half.specs.Parts.{IsPart, PartValue}
