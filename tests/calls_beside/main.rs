@@ -5,6 +5,7 @@
 
 mod board;
 mod branches;
+mod desks;
 mod layers;
 mod lines;
 mod nests;
@@ -34,6 +35,9 @@ fn main(rt: HostRuntime) -> io::Result<()> {
         ("one worker meets nobody", workers::meet_nobody_alone(&rt, alloc)),
         ("workers under a lock meet nobody", workers::meet_nobody_under_a_lock(&rt, alloc)),
         ("without memory no fusion is asked for", workers::ask_for_no_fusion(&rt, alloc)),
+        ("workers at a desk do all items", desks::do_all_items(&rt, alloc)),
+        ("the calling thread at a desk", desks::work_on_the_calling_thread(alloc)),
+        ("without memory the desk ends", desks::end_without_memory(&rt, alloc)),
         ("who gives the second child goes on", slots::fuse_where_the_second_child_is_given(alloc)),
         ("an item that is left starves the board", slots::starve_where_a_unit_is_left(alloc)),
         ("a plan of one unit has a root a slot", slots::give_the_units_of_many_slots(alloc)),

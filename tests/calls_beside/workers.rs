@@ -16,11 +16,11 @@ use std::thread::Threads;
 
 /// A piece that lists the nodes that were made for it.
 #[derive(Drop)]
-struct Listed<'a> {
+pub struct Listed<'a> {
     job: &'a Job<'a>,
     slot: u32,
     node: u32,
-    made: Vec<u32>,
+    pub made: Vec<u32>,
 }
 
 impl<'a> Piece for Listed<'a> {
@@ -44,15 +44,15 @@ impl<'a> Piece for Listed<'a> {
 /// Hands that list nodes. They have no memory for one of the nodes, if it is named, and count the fusions that are asked
 /// for. A worker's tools count its items.
 #[derive(Drop)]
-struct Lister<'a> {
+pub struct Lister<'a> {
     job: &'a Job<'a>,
-    without: Option<u32>,
+    pub without: Option<u32>,
     fusions: AtomicU64,
 }
 
 impl<'a> Lister<'a> {
     /// Hands with memory for all nodes of the job.
-    fn new(job: &'a Job<'a>) -> Lister<'a> {
+    pub fn new(job: &'a Job<'a>) -> Lister<'a> {
         Lister {
             job,
             without: None,

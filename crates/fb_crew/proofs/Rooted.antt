@@ -13,7 +13,7 @@ use Rattle.fb_book.specs.Board.{kids_in}
 use Rattle.fb_book.specs.Machine.{IsComplete}
 use Rattle.fb_book.specs.declared.entries.Entry.{Entry}
 use Rattle.fb_book.specs.declared.limits.TheConstants.{MOST_AT_ONCE}
-use Rattle.fb_crew.specs.Crews.{IsCompleteOf}
+use Rattle.fb_hands.specs.Jobs.{IsCompleteOf}
 use Rattle.fb_crew.proofs.EvenPlaces.{as_many_places, slots_within, sorting_laws}
 use Rattle.fb_crew.specs.InternalWindows.{AreOddAt, AreRowsOf, AreSolvedRoots, IsSorted, even_of, rows_by, with_places}
 use Rattle.fb_book.proofs.Handing.{one_item}

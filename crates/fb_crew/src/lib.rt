@@ -3,19 +3,13 @@
 
 #![tactic(auto)]
 
-pub mod crew;
-mod desk;
-pub mod hands;
-pub mod here;
-mod locked;
-mod seat;
+mod placed;
 pub mod solver;
 mod sorting;
 pub mod window;
 
-pub use crew::{Worked, work_all};
 pub use fb_book::{Entry, Kind};
-pub use hands::{Gate, Hands, OpenGate};
-pub use here::{Finished, work_here};
+pub use fb_desk::{work_all, work_here};
+pub use fb_hands::{Finished, Gate, Hands, OpenGate, Worked};
 pub use solver::{Counts, Solved, Solver, Tools};
 pub use window::{Crew, Window, decode_here, decode_window};

@@ -6,11 +6,11 @@ ghost use Rattle.fb_plan.specs.Plans.{children_of, root_of};
 ghost use Rattle.fb_crew.specs.InternalSolved.{IsFoundAt, item_at, item_of, shot_at};
 ghost use Rattle.fb_crew.specs.Windows.{IsShotRow};
 
-use crate::hands::Hands;
 use fb_book::Piece;
 use fb_fuse::fuse_from;
 use fb_graph::{Graph, NoMemory, Row, Steps, Whole};
 use fb_half::{Half, Spare};
+use fb_hands::Hands;
 use fb_plan::Job;
 use fb_resolve::resolve;
 use fb_search::Scratch;

@@ -3,18 +3,18 @@
 ghost use Rattle.std.specs.Prelude.{◌≡◌, ◌≤◌, length, ℕ, All, IfOk, IfSome};
 ghost use Rattle.fb_graph.specs.Limits.{IsShot};
 ghost use Rattle.fb_plan.specs.Plans.{IsPlan, root_of};
-ghost use Rattle.fb_crew.specs.Crews.{IsCompleteOf};
+ghost use Rattle.fb_hands.specs.Jobs.{IsCompleteOf};
 ghost use Rattle.fb_crew.specs.InternalWindows.{AreRowsOf, AreSolvedRoots, IsSorted};
 ghost use Rattle.fb_crew.specs.Windows.{AreRows, IsHistoryOf};
 
-use crate::crew::{Worked, work_all};
-use crate::hands::{Gate, Placed};
-use crate::here::{Finished, work_here};
+use crate::placed::Placed;
 use crate::solver::{Solved, Solver, Tools};
 use crate::sorting::{Sorted, join_rows, renumber, sort_out};
 use fb_book::{Entry, MOST_AT_ONCE, MOST_WORKERS};
+use fb_desk::{work_all, work_here};
 use fb_graph::{Components, Graph, NoMemory, Row, Shot, Whole, components};
 use fb_half::both::both;
+use fb_hands::{Finished, Gate, Worked};
 use fb_plan::{Job, Plan};
 use std::alloc::Global;
 use std::marker::Model;

@@ -1,6 +1,0 @@
-use Rattle.std.proofs.Common.{refl}
-use Rattle.fb_crew.proofs.desk.Desk.turn.Goals as goal
-
-pub fusion-requires-clause-children : goal.fusion-requires-clause-children
-fusion-requires-clause-children g c κs within =
-    c.in-Fusion.ensures.pieces c.in-Fusion.permit c.in-Fusion.left c.in-Fusion.right refl

@@ -1,0 +1,2 @@
+pub mod InternalQuiet
+pub mod Numbers

@@ -1,0 +1,15 @@
+//! A board behind a lock: workers that take the items of a job from one book, each on a thread of its own, and wait at the
+//! lock while no item can be taken. The program's workers share a board without a lock (`fb_slots`); this one is for a run
+//! whose items come while it goes on.
+
+#![tactic(auto)]
+
+mod desk;
+pub mod here;
+mod items;
+mod locked;
+mod seat;
+pub mod workers;
+
+pub use here::work_here;
+pub use workers::work_all;
