@@ -1,8 +1,8 @@
-"""Replays the events that a report lists by a small model of the board, and judges the order in which parts were taken.
+"""Replays the events that a report lists by a small model of the board, and judges the order in which they are listed.
 
 Nothing here is shared with the program. A part is a node of the plan for one shot. It is idle, held by a worker, given, or
-used by the fusion above it. A fusion may be taken once both its children are given. Whoever takes a part takes a fusion if
-there is one that may be taken, else a unit, and of those the first by shot and then by node.
+used by the fusion above it. A fusion may be taken once both its children are given. Events are listed by shot, then node,
+and a part is taken before it is given.
 """
 
 IDLE, GIVEN, USED = "idle", "given", "used"
@@ -48,21 +48,19 @@ class Board:
         shot, node = part
         return self.status[part] == IDLE and all(self.status[shot, child] == GIVEN for child in self.children[node])
 
-    def first(self):
-        """The part that whoever comes next takes."""
-        ready = [part for part in self.parts if self.may_be_taken(part)]
-        fusions = [part for part in ready if self.children[part[1]]]
-        return min(fusions or ready, default=None)
-
     def complaints(self, events, workers):
         found = []
+        last = ()
         for kind, worker, shot, node in events:
             part = (shot, node)
-            if part not in self.status or worker > workers:
+            if part not in self.status or worker >= workers:
                 return [*found, f"{kind} {worker} {shot} {node} is of no part or worker"]
+            if (part, kind == "gave") <= last:
+                found.append(f"{kind} {worker} {shot} {node} comes too late")
+            last = (part, kind == "gave")
             if kind == "took":
-                if part != self.first():
-                    found.append(f"worker {worker} took {part} where {self.first()} comes first")
+                if not self.may_be_taken(part):
+                    found.append(f"worker {worker} took {part}, which may not be taken yet")
                 self.take(part, worker)
             elif self.status[part] != worker:
                 found.append(f"worker {worker} gave {part}, which is {self.status[part]}")

@@ -1,31 +1,13 @@
 //! Workers that share a book under a lock.
 
 use crate::stopped::Stopped;
-use crate::workers::{Listed, Lister, Pair};
+use crate::workers::{Listed, Lister, Pair, SLOTS, are_whole};
 use fb_crew::{OpenGate, Worked};
 use fb_desk::{work_all, work_here};
-use fb_graph::Shot;
 use fb_plan::Job;
 use std::alloc::Global;
 use std::sync::Wait;
 use std::thread::Threads;
-
-const SLOTS: u32 = 500;
-
-/// The pair's plan, with many slots.
-fn many_slots(alloc: Global) -> Result<Pair, Stopped> {
-    let Pair { graph, plan, .. } = Pair::new(alloc)?;
-    let mut shots = Vec::new(alloc);
-    for _ in 0..SLOTS {
-        shots.push(Shot::from_rising(&graph, Vec::new(alloc)))?;
-    }
-    Ok(Pair { graph, plan, shots })
-}
-
-/// Whether the piece of each slot's root lists its three nodes.
-fn are_whole(roots: &[Listed<'_>]) -> bool {
-    roots.len() == SLOTS as usize && roots.iter().all(|root| root.made.as_slice() == [0, 1, 2].as_slice())
-}
 
 /// Each item is done once and noted twice, by one of the workers.
 fn is_done_once(worked: &Worked<Listed<'_>, u32>, workers: u32) -> Result<(), Stopped> {
@@ -44,7 +26,7 @@ fn is_done_once(worked: &Worked<Listed<'_>, u32>, workers: u32) -> Result<(), St
 /// One, two and 64 workers do the items of many slots.
 pub fn do_all_items<R: Threads + Wait + Sync>(rt: &R, alloc: Global) -> Result<(), Stopped> {
     for workers in [1, 2, 64] {
-        let Pair { graph, plan, shots } = many_slots(alloc)?;
+        let Pair { graph, plan, shots } = Pair::many(alloc)?;
         let job = Job::new(&graph, &plan, shots);
         let tools = vec![in alloc; 0; workers as usize]?;
         let worked = work_all(rt, alloc, &job, workers, &Lister::new(&job), &OpenGate, tools)?;
@@ -55,7 +37,7 @@ pub fn do_all_items<R: Threads + Wait + Sync>(rt: &R, alloc: Global) -> Result<(
 
 /// The calling thread does each item once.
 pub fn work_on_the_calling_thread(alloc: Global) -> Result<(), Stopped> {
-    let Pair { graph, plan, shots } = many_slots(alloc)?;
+    let Pair { graph, plan, shots } = Pair::many(alloc)?;
     let job = Job::new(&graph, &plan, shots);
     let mut items = 0;
     let finished = work_here(alloc, &job, &Lister::new(&job), &mut items)?;
@@ -64,7 +46,7 @@ pub fn work_on_the_calling_thread(alloc: Global) -> Result<(), Stopped> {
 
 /// If there is no memory for a unit, the work ends without an answer.
 pub fn end_without_memory<R: Threads + Wait + Sync>(rt: &R, alloc: Global) -> Result<(), Stopped> {
-    let Pair { graph, plan, shots } = many_slots(alloc)?;
+    let Pair { graph, plan, shots } = Pair::many(alloc)?;
     let job = Job::new(&graph, &plan, shots);
     let mut hands = Lister::new(&job);
     hands.without = Some(1);

@@ -35,6 +35,8 @@ fn main(rt: HostRuntime) -> io::Result<()> {
         ("one worker meets nobody", workers::meet_nobody_alone(&rt, alloc)),
         ("workers under a lock meet nobody", workers::meet_nobody_under_a_lock(&rt, alloc)),
         ("without memory no fusion is asked for", workers::ask_for_no_fusion(&rt, alloc)),
+        ("workers do many slots", workers::do_many_slots(&rt, alloc)),
+        ("no more workers than units", workers::are_no_more_than_units(&rt, alloc)),
         ("workers at a desk do all items", desks::do_all_items(&rt, alloc)),
         ("the calling thread at a desk", desks::work_on_the_calling_thread(alloc)),
         ("without memory the desk ends", desks::end_without_memory(&rt, alloc)),

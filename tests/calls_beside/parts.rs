@@ -12,7 +12,6 @@ use fb_search::search;
 use fb_unit::solve_unit;
 use std::alloc::Global;
 use std::marker::Brand;
-use std::sync::Wait;
 use std::sync::atomic::{AtomicU64, Ordering};
 use std::sync::ledger::{Blank, Ledger};
 use std::thread::Threads;
@@ -79,7 +78,7 @@ pub fn keep_their_layers(alloc: Global) -> Result<(), Stopped> {
 }
 
 /// The row of the defects at 1 and 3 with the seam at 2, or without a plan.
-fn row_of_pair<R: Threads + Wait + Sync>(
+fn row_of_pair<R: Threads + Sync>(
     rt: &R,
     alloc: Global,
     line: &Line,
@@ -94,7 +93,7 @@ fn row_of_pair<R: Threads + Wait + Sync>(
 }
 
 /// The root's row has the cuts of both units, each of which meets the seam; without a plan one defect alone grows.
-pub fn give_the_root_their_cuts<R: Threads + Wait + Sync>(rt: &R, alloc: Global) -> Result<(), Stopped> {
+pub fn give_the_root_their_cuts<R: Threads + Sync>(rt: &R, alloc: Global) -> Result<(), Stopped> {
     let line = Line::new(alloc, &[40, 2, 2, 40], &[2])?;
     for workers in 1..3 {
         let rows = row_of_pair(rt, alloc, &line, &line.plan, workers)?;
@@ -200,7 +199,7 @@ impl<'a> Hands<Solved<'a>, Tools> for Looking<'a> {
 
 /// Each posted part has all its defects matched, and is of its own item: three units and the fusion of two of them, for each
 /// of four shots, one of them without defects.
-pub fn have_all_defects_matched<R: Threads + Wait + Sync>(rt: &R, alloc: Global) -> Result<(), Stopped> {
+pub fn have_all_defects_matched<R: Threads + Sync>(rt: &R, alloc: Global) -> Result<(), Stopped> {
     let line = Line::new(alloc, &[2, 4, 2, 6, 2, 4, 8, 2, 4], &[3, 6])?;
     let mut shots = Vec::new(alloc);
     shots.push(line.shot(alloc, &[1, 2, 3, 4, 5, 6, 7, 8])?)?;

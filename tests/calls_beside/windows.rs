@@ -6,7 +6,6 @@ use fb_crew::{Crew, Entry, Gate, Kind, OpenGate, Window, decode_here, decode_win
 use fb_graph::{Graph, Row, Shot, components};
 use fb_plan::{Join, Plan};
 use std::alloc::Global;
-use std::sync::Wait;
 use std::sync::atomic::{AtomicU64, Ordering};
 use std::thread::Threads;
 
@@ -79,7 +78,7 @@ fn is_right(window: &Window, workers: u32) -> bool {
 }
 
 /// The gate and the history have the place of a shot in its window, odd ones counted.
-pub fn have_places_among_all_shots<R: Threads + Wait + Sync>(rt: &R, alloc: Global) -> Result<(), Stopped> {
+pub fn have_places_among_all_shots<R: Threads + Sync>(rt: &R, alloc: Global) -> Result<(), Stopped> {
     let OddFirst { graph, plan, shots } = OddFirst::new(alloc)?;
     let mut parts = components(alloc, &graph)?;
     for workers in 1..4 {
@@ -104,7 +103,7 @@ pub fn are_made_on_the_calling_thread(alloc: Global) -> Result<(), Stopped> {
 }
 
 /// What the tools of all workers count, by a crew that decodes this shot alone: units, their searches, fusions, their searches.
-fn counts_of<R: Threads + Wait + Sync>(
+fn counts_of<R: Threads + Sync>(
     rt: &R,
     alloc: Global,
     line: &Line,
@@ -132,7 +131,7 @@ fn counts_of<R: Threads + Wait + Sync>(
 
 /// Defects at 1 and 3, and at 1, 2 and 3: each unit matches its defect, one of them to the seam at 2, whose fusion makes one
 /// search. Without a plan nothing is fused.
-pub fn count_what_is_done<R: Threads + Wait + Sync>(rt: &R, alloc: Global) -> Result<(), Stopped> {
+pub fn count_what_is_done<R: Threads + Sync>(rt: &R, alloc: Global) -> Result<(), Stopped> {
     let line = Line::new(alloc, &[2, 4, 2, 6], &[2])?;
     for workers in 1..3 {
         for defects in [[1, 3].as_slice(), [1, 2, 3].as_slice()] {

@@ -270,10 +270,28 @@ impl Pair {
         shots.push(Shot::from_rising(&graph, Vec::new(alloc)))?;
         Ok(Pair { graph, plan, shots })
     }
+
+    /// The same with many shots.
+    pub fn many(alloc: Global) -> Result<Pair, Stopped> {
+        let Pair { graph, plan, .. } = Pair::new(alloc)?;
+        let mut shots = Vec::new(alloc);
+        for _ in 0..SLOTS {
+            shots.push(Shot::from_rising(&graph, Vec::new(alloc)))?;
+        }
+        Ok(Pair { graph, plan, shots })
+    }
+}
+
+/// How many shots are many.
+pub const SLOTS: u32 = 500;
+
+/// Whether the piece of each slot's root lists its three nodes.
+pub fn are_whole(roots: &[Listed<'_>]) -> bool {
+    roots.len() == SLOTS as usize && roots.iter().all(|root| root.made.as_slice() == [0, 1, 2].as_slice())
 }
 
 /// Lists the nodes of the job by this number of workers, by way of the gate.
-fn list_by<'a, G: Gate, R: Threads + Wait + Sync>(
+fn list_by<'a, G: Gate, R: Threads + Sync>(
     rt: &R,
     alloc: Global,
     hands: &Lister<'a>,
@@ -299,7 +317,7 @@ fn lists_the_tree(worked: &Worked<Listed<'_>, u32>) -> Result<(), Stopped> {
 
 /// By two workers, each of which makes a unit while the other one does, the root's nodes are made in the order of the tree,
 /// each once, and the history has who gave which.
-pub fn meet_at_the_gate<R: Threads + Wait + Sync>(rt: &R, alloc: Global) -> Result<(), Stopped> {
+pub fn meet_at_the_gate<R: Threads + Sync>(rt: &R, alloc: Global) -> Result<(), Stopped> {
     let Pair { graph, plan, shots } = Pair::new(alloc)?;
     let job = Job::new(&graph, &plan, shots);
     let gate = Meeting::new();
@@ -311,7 +329,7 @@ pub fn meet_at_the_gate<R: Threads + Wait + Sync>(rt: &R, alloc: Global) -> Resu
 }
 
 /// One worker alone meets nobody at the gate.
-pub fn meet_nobody_alone<R: Threads + Wait + Sync>(rt: &R, alloc: Global) -> Result<(), Stopped> {
+pub fn meet_nobody_alone<R: Threads + Sync>(rt: &R, alloc: Global) -> Result<(), Stopped> {
     let Pair { graph, plan, shots } = Pair::new(alloc)?;
     let job = Job::new(&graph, &plan, shots);
     let gate = Meeting::new();
@@ -331,7 +349,7 @@ pub fn meet_nobody_under_a_lock<R: Threads + Wait + Sync>(rt: &R, alloc: Global)
 }
 
 /// If one worker has no memory for a unit, the fusion above it is never asked for.
-pub fn ask_for_no_fusion<R: Threads + Wait + Sync>(rt: &R, alloc: Global) -> Result<(), Stopped> {
+pub fn ask_for_no_fusion<R: Threads + Sync>(rt: &R, alloc: Global) -> Result<(), Stopped> {
     let Pair { graph, plan, shots } = Pair::new(alloc)?;
     let job = Job::new(&graph, &plan, shots);
     let hands = Lister {
@@ -341,6 +359,54 @@ pub fn ask_for_no_fusion<R: Threads + Wait + Sync>(rt: &R, alloc: Global) -> Res
     let worked = list_by(rt, alloc, &hands, 2, &OpenGate);
     Stopped::unless(worked.is_err(), "work without memory")?;
     Stopped::unless(hands.fusions.load(Ordering::SeqCst) == 0, "how many fusions are asked for")
+}
+
+/// Whether the entry at this place is that its item was taken, or then given by the same worker: items go by slot, then node.
+fn is_in_place(history: &[Entry], place: usize) -> bool {
+    let (entry, first) = (&history[place], &history[place - place % 2]);
+    let kind = if place % 2 == 0 { Kind::Took } else { Kind::Gave };
+    let item = (place / 6, place / 2 % 3);
+    entry.kind == kind && (entry.slot as usize, entry.node as usize) == item && entry.worker == first.worker
+}
+
+/// All items of many slots by so many workers: each root's nodes, each worker's tools, and the history by slot, then node.
+fn list_many<R: Threads + Sync>(rt: &R, alloc: Global, workers: u32) -> Result<(), Stopped> {
+    let Pair { graph, plan, shots } = Pair::many(alloc)?;
+    let job = Job::new(&graph, &plan, shots);
+    let worked = list_by(rt, alloc, &Lister::new(&job), workers, &OpenGate)?;
+    Stopped::unless(are_whole(&worked.roots), "the roots of many slots")?;
+    let mut items = 0;
+    for count in &worked.tools {
+        items += *count;
+    }
+    Stopped::unless(worked.tools.len() == workers as usize && items == 3 * SLOTS, "the items of many slots")?;
+    let history = worked.history.as_slice();
+    Stopped::unless(history.len() == 6 * SLOTS as usize && worked.made == 6 * u64::from(SLOTS), "the events of many slots")?;
+    for place in 0..history.len() {
+        Stopped::unless(is_in_place(history, place) && history[place].worker < workers, "the order of a history")?;
+    }
+    Ok(())
+}
+
+/// One, two, four and 64 workers do the items of many slots.
+pub fn do_many_slots<R: Threads + Sync>(rt: &R, alloc: Global) -> Result<(), Stopped> {
+    for workers in [1, 2, 4, 64] {
+        list_many(rt, alloc, workers)?;
+    }
+    Ok(())
+}
+
+/// No more workers than units take part, and one if there is no slot.
+pub fn are_no_more_than_units<R: Threads + Sync>(rt: &R, alloc: Global) -> Result<(), Stopped> {
+    let Pair { graph, plan, shots } = Pair::new(alloc)?;
+    let job = Job::new(&graph, &plan, shots);
+    let worked = list_by(rt, alloc, &Lister::new(&job), 64, &OpenGate)?;
+    lists_the_tree(&worked)?;
+    let few = worked.history.iter().all(|entry| entry.worker < 2);
+    Stopped::unless(few && worked.tools.len() == 64, "the number of workers")?;
+    let none = Job::new(&graph, &plan, Vec::new(alloc));
+    let worked = list_by(rt, alloc, &Lister::new(&none), 3, &OpenGate)?;
+    Stopped::unless(worked.roots.is_empty() && worked.history.is_empty(), "a job without slots")
 }
 
 /// The calling thread does each item once.

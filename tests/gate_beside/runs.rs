@@ -7,14 +7,13 @@ use fb_ports::{MemFiles, MemSink};
 use fb_run::{Gate, OpenGate, run};
 use std::alloc::Global;
 use std::str;
-use std::sync::Wait;
 use std::thread::Threads;
 
 /// More than any report here has.
 const ROOM: usize = 65_536;
 
 /// What the program writes for these words.
-fn output_of<G: Gate, R: Threads + Wait + Sync>(
+fn output_of<G: Gate, R: Threads + Sync>(
     rt: &R,
     alloc: Global,
     words: &[&str],
@@ -43,7 +42,7 @@ fn files_of(alloc: Global, problem: &Problem) -> Result<MemFiles, Stopped> {
 }
 
 /// The report of a problem's shot by workers, with its trace.
-fn report_of<R: Threads + Wait + Sync>(
+fn report_of<R: Threads + Sync>(
     rt: &R,
     alloc: Global,
     problem: &Problem,
@@ -59,7 +58,7 @@ fn report_of<R: Threads + Wait + Sync>(
 }
 
 /// The report has the best correction, and `check` finds its cuts good.
-fn is_best<R: Threads + Wait + Sync>(
+fn is_best<R: Threads + Sync>(
     rt: &R,
     alloc: Global,
     problem: &Problem,
@@ -115,7 +114,7 @@ fn names_who_came(report: &[u8], problem: &Problem, gate: &Meeting) -> Result<()
 }
 
 /// Workers that meet with units make the best row, and the report names who came.
-fn meet<R: Threads + Wait + Sync>(
+fn meet<R: Threads + Sync>(
     rt: &R,
     alloc: Global,
     problem: &Problem,
@@ -130,17 +129,17 @@ fn meet<R: Threads + Wait + Sync>(
 }
 
 /// Two units of one defect each.
-pub fn meet_with_two_units<R: Threads + Wait + Sync>(rt: &R, alloc: Global) -> Result<(), Stopped> {
+pub fn meet_with_two_units<R: Threads + Sync>(rt: &R, alloc: Global) -> Result<(), Stopped> {
     meet(rt, alloc, &line(alloc)?, "2")
 }
 
 /// Four units of twenty defects each.
-pub fn meet_with_four_units<R: Threads + Wait + Sync>(rt: &R, alloc: Global) -> Result<(), Stopped> {
+pub fn meet_with_four_units<R: Threads + Sync>(rt: &R, alloc: Global) -> Result<(), Stopped> {
     meet(rt, alloc, &lattice(alloc)?, "4")
 }
 
 /// One worker makes the same row, and waits in vain.
-pub fn meet_nobody_alone<R: Threads + Wait + Sync>(rt: &R, alloc: Global) -> Result<(), Stopped> {
+pub fn meet_nobody_alone<R: Threads + Sync>(rt: &R, alloc: Global) -> Result<(), Stopped> {
     let problem = line(alloc)?;
     let gate = Meeting::new(alloc, problem.units, problem.nodes)?;
     let report = report_of(rt, alloc, &problem, "1", &gate)?;

@@ -4,7 +4,6 @@ use crate::stopped::Stopped;
 use fb_ports::{Files, MemFiles, MemSink, read_whole};
 use fb_run::{Ended, OpenGate, run};
 use std::alloc::Global;
-use std::sync::Wait;
 use std::thread::Threads;
 
 /// A line of five vertices, whose ends are virtual.
@@ -71,7 +70,7 @@ impl Answer {
 }
 
 /// Runs a command line over files, into a sink.
-fn run_into<R: Threads + Wait + Sync>(
+fn run_into<R: Threads + Sync>(
     rt: &R,
     alloc: Global,
     line: &str,
@@ -85,7 +84,7 @@ fn run_into<R: Threads + Wait + Sync>(
 }
 
 /// Runs a command line over files, into a sink that has room.
-fn run_with<R: Threads + Wait + Sync>(
+fn run_with<R: Threads + Sync>(
     rt: &R,
     alloc: Global,
     line: &str,
@@ -96,7 +95,7 @@ fn run_with<R: Threads + Wait + Sync>(
 }
 
 /// An error if a run didn't end so and write these lines, apart from its cuts, or if `check` finds a row of it bad.
-fn demand_report<R: Threads + Wait + Sync>(
+fn demand_report<R: Threads + Sync>(
     rt: &R,
     alloc: Global,
     answer: &Answer,
@@ -113,7 +112,7 @@ fn demand_report<R: Threads + Wait + Sync>(
 }
 
 /// By one worker, whose events are known, and by two.
-pub fn decodes_by_a_plan<R: Threads + Wait + Sync>(rt: &R, alloc: Global) -> Result<(), Stopped> {
+pub fn decodes_by_a_plan<R: Threads + Sync>(rt: &R, alloc: Global) -> Result<(), Stopped> {
     let mut files = files_of(alloc, b"101\n")?;
     let line = "fusion decode --graph g --plan p --shots s --format 01 --workers 1 --trace";
     let answer = run_with(rt, alloc, line, &mut files)?;
@@ -129,7 +128,7 @@ pub fn decodes_by_a_plan<R: Threads + Wait + Sync>(rt: &R, alloc: Global) -> Res
 }
 
 /// Two shots of words, and one that names a detector twice, read in pieces of 1, 2 and 7 bytes.
-pub fn ends_at_a_refused_shot<R: Threads + Wait + Sync>(rt: &R, alloc: Global) -> Result<(), Stopped> {
+pub fn ends_at_a_refused_shot<R: Threads + Sync>(rt: &R, alloc: Global) -> Result<(), Stopped> {
     let text = b"fusion-report 1\nshot 0\nedges 1 2\nweight 6\nshot 1\nedges\nweight 0\n".as_slice();
     for piece in [1, 2, 7, 64] {
         let mut files = files_of(alloc, b"shot D0 L0 D2\n\nshot\nshot D1 D1\n")?;
@@ -143,7 +142,7 @@ pub fn ends_at_a_refused_shot<R: Threads + Wait + Sync>(rt: &R, alloc: Global) -
 }
 
 /// Reads and puts of one byte each.
-pub fn moves_single_bytes<R: Threads + Wait + Sync>(rt: &R, alloc: Global) -> Result<(), Stopped> {
+pub fn moves_single_bytes<R: Threads + Sync>(rt: &R, alloc: Global) -> Result<(), Stopped> {
     let mut files = files_of(alloc, b"000\n")?;
     files.give_at_most(1);
     let mut out = MemSink::new(alloc, ROOM)?;
@@ -154,7 +153,7 @@ pub fn moves_single_bytes<R: Threads + Wait + Sync>(rt: &R, alloc: Global) -> Re
 }
 
 /// A report is checked whose row is good, or has cuts that are too heavy for an edge, or too light in sum.
-pub fn checks_rows<R: Threads + Wait + Sync>(rt: &R, alloc: Global) -> Result<(), Stopped> {
+pub fn checks_rows<R: Threads + Sync>(rt: &R, alloc: Global) -> Result<(), Stopped> {
     let rows = [
         ("cut 2 1\ncut 2 2 3\ncut 2 3\n", 0, "good", "0"),
         ("cut 2 1\ncut 1 2 3\ncut 3 3\n", 1, "bad Overloaded 2", "1"),
@@ -172,7 +171,7 @@ pub fn checks_rows<R: Threads + Wait + Sync>(rt: &R, alloc: Global) -> Result<()
 }
 
 /// All edges are hit, or none.
-pub fn samples_lattices<R: Threads + Wait + Sync>(rt: &R, alloc: Global) -> Result<(), Stopped> {
+pub fn samples_lattices<R: Threads + Sync>(rt: &R, alloc: Global) -> Result<(), Stopped> {
     let samples = [
         ("2", "1", "1", "1048576", "shots 1 defects 2 weight 20\ndone units 1 fusions 0\n"),
         ("3", "3", "2", "1048576", "shots 1 defects 8 weight 80\ndone units 2 fusions 1\n"),
@@ -194,7 +193,7 @@ pub fn samples_lattices<R: Threads + Wait + Sync>(rt: &R, alloc: Global) -> Resu
 
 /// The rows that stand when a call of the files fails: those of the shots that the bytes read by then settle. The second shot
 /// has no newline, so that only the file's end settles it.
-pub fn fails_at_each_call<R: Threads + Wait + Sync>(rt: &R, alloc: Global) -> Result<(), Stopped> {
+pub fn fails_at_each_call<R: Threads + Sync>(rt: &R, alloc: Global) -> Result<(), Stopped> {
     for call in 1..8_u64 {
         let mut files = files_of(alloc, b"100\n010")?;
         files.fail_at(vec![in alloc; call]?);
@@ -218,7 +217,7 @@ pub fn fails_at_each_call<R: Threads + Wait + Sync>(rt: &R, alloc: Global) -> Re
 }
 
 /// A put that fails leaves what the puts before it took, and the run ends.
-pub fn fails_at_each_put<R: Threads + Wait + Sync>(rt: &R, alloc: Global) -> Result<(), Stopped> {
+pub fn fails_at_each_put<R: Threads + Sync>(rt: &R, alloc: Global) -> Result<(), Stopped> {
     let mut files = files_of(alloc, b"100\n010")?;
     let whole = run_with(rt, alloc, DECODE, &mut files)?;
     demand_report(rt, alloc, &whole, b"100\n010", TWO_SHOTS)?;
@@ -247,7 +246,7 @@ pub fn fails_at_each_put<R: Threads + Wait + Sync>(rt: &R, alloc: Global) -> Res
 }
 
 /// Of many shots, most aren't read when a sink takes no more than the head.
-pub fn stops_reading<R: Threads + Wait + Sync>(rt: &R, alloc: Global) -> Result<(), Stopped> {
+pub fn stops_reading<R: Threads + Sync>(rt: &R, alloc: Global) -> Result<(), Stopped> {
     let mut shots = Vec::new(alloc);
     for _ in 0..50_000 {
         shots.extend_from_slice(b"000\n")?;

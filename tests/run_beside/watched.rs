@@ -7,7 +7,6 @@ use crate::stopped::Stopped;
 use fb_ports::{Failed, Files, MOST_ASKED, MemFiles, MemSink, Sink};
 use fb_run::{Ended, OpenGate, run};
 use std::alloc::Global;
-use std::sync::Wait;
 use std::sync::atomic::{AtomicU64, Ordering};
 use std::thread::Threads;
 
@@ -117,7 +116,7 @@ struct Answer {
     reads: Vec<u64>,
 }
 
-fn run_watched<R: Threads + Wait + Sync>(
+fn run_watched<R: Threads + Sync>(
     rt: &R,
     alloc: Global,
     line: &str,
@@ -145,7 +144,7 @@ fn run_watched<R: Threads + Wait + Sync>(
 
 /// A read gives one shot of `000`, whose row has 22 bytes. Before shot `k` is read, the head is out, and the rows of all
 /// windows that the shots before it fill. The graph takes as many reads as it has pieces of a shot's size.
-pub fn writes_rows_before_it_reads_on<R: Threads + Wait + Sync>(rt: &R, alloc: Global) -> Result<(), Stopped> {
+pub fn writes_rows_before_it_reads_on<R: Threads + Sync>(rt: &R, alloc: Global) -> Result<(), Stopped> {
     let graph_reads = GRAPH.len().div_ceil(4) + 1;
     for window in [1_u64, 2, 3, 7] {
         let mut files = files_of(alloc, b"000\n000\n000\n000\n000\n000\n")?;
@@ -170,7 +169,7 @@ pub fn writes_rows_before_it_reads_on<R: Threads + Wait + Sync>(rt: &R, alloc: G
 }
 
 /// The head of a check is out before the first shot is read.
-pub fn writes_the_head_before_it_reads<R: Threads + Wait + Sync>(rt: &R, alloc: Global) -> Result<(), Stopped> {
+pub fn writes_the_head_before_it_reads<R: Threads + Sync>(rt: &R, alloc: Global) -> Result<(), Stopped> {
     let mut files = files_of(alloc, b"000\n")?;
     files.add(alloc, "r", b"fusion-report 1\nshot 0\nedges\nweight 0\ndone 1 odd 0 units 1 fusions 0\n")?;
     let sink = MemSink::new(alloc, ROOM)?;
@@ -182,7 +181,7 @@ pub fn writes_the_head_before_it_reads<R: Threads + Wait + Sync>(rt: &R, alloc: 
 }
 
 /// After an open, a read or a put that failed, that port is asked for nothing more, and no read asks for more than its limit.
-pub fn asks_nothing_after_a_failure<R: Threads + Wait + Sync>(rt: &R, alloc: Global) -> Result<(), Stopped> {
+pub fn asks_nothing_after_a_failure<R: Threads + Sync>(rt: &R, alloc: Global) -> Result<(), Stopped> {
     let report = b"fusion-report 1\nshot 0\nedges\nweight 0\nshot 1\nedges\nweight 0\ndone 2 odd 0 units 2 fusions 0\n";
     let lines = [
         "fusion decode --graph g --shots s --format 01",

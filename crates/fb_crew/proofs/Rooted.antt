@@ -14,6 +14,7 @@ use Rattle.fb_book.specs.Machine.{IsComplete}
 use Rattle.fb_book.specs.declared.entries.Entry.{Entry}
 use Rattle.fb_book.specs.declared.limits.TheConstants.{MOST_AT_ONCE}
 use Rattle.fb_hands.specs.Jobs.{IsCompleteOf}
+use Rattle.fb_slots.specs.Ordered.{IsByItem}
 use Rattle.fb_crew.proofs.EvenPlaces.{as_many_places, slots_within, sorting_laws}
 use Rattle.fb_crew.specs.InternalWindows.{AreOddAt, AreRowsOf, AreSolvedRoots, IsSorted, even_of, rows_by, with_places}
 use Rattle.fb_book.proofs.Handing.{one_item}
@@ -188,7 +189,7 @@ module _ (g : DecodingGraph) (t : PlanTree) (plan : IsPlan g t) (shots : List Sh
       as_many = ap length sorted.even_are ∙ sym (as_many_places g 0 odd shots sorted.each) ∙ sym (ap length sorted.places_are)
 
   pub window_made : (workers : ℕ) (j : JobValue) → j ≡ job → (solved : List Row) (history : List Entry) → AreRows g even solved → IsCompleteOf j history
-      → All (λ e. e.worker ≤ workers) history
+      → All (λ e. e.worker ≤ workers) history → IsByItem (node_count t) history
       → AreRows g shots (rows_by odd solved) × IsHistoryOf t workers (rows_by odd solved) (with_places places history)
-  window_made workers j e solved history answers complete by =
-      sorting_laws g t workers shots odd even places solved history plan.tree sorted answers (complete_on j e history complete) by
+  window_made workers j e solved history answers complete by order =
+      sorting_laws g t workers shots odd even places solved history plan.tree sorted answers (complete_on j e history complete) by order

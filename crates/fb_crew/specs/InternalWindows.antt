@@ -12,6 +12,7 @@ use Rattle.fb_book.specs.Machine.{IsComplete}
 use Rattle.fb_book.specs.Laws.{renumbered_entry}
 use Rattle.fb_book.specs.declared.entries.Entry.{Entry}
 use Rattle.fb_book.specs.declared.limits.TheConstants.{MOST_WORKERS}
+use Rattle.fb_slots.specs.Ordered.{IsByItem}
 use Rattle.fb_crew.specs.InternalSolved.{SolvedValue, shot_at}
 use Rattle.fb_crew.specs.Windows.{AreRows, IsHistoryOf, IsShotRow}
 
@@ -60,6 +61,7 @@ abbrev pub SortingLaws : Type 0
 SortingLaws = (g : DecodingGraph) (t : PlanTree) (workers : ℕ) (shots : List ShotValue) (odd : List (Option ℕ)) (even : List ShotValue)
     (places : List ℕ) (solved : List Row) (history : List Entry) → IsTree t → IsSorted g shots odd even places → AreRows g even solved
     → IsComplete (kids_in t.units t.joins) (node_count t) (length even * node_count t) history → All (λ e. e.worker ≤ workers) history
+    → IsByItem (node_count t) history
     → AreRows g shots (rows_by odd solved) × IsHistoryOf t workers (rows_by odd solved) (with_places places history)
 
 -- the solved items of the roots of all slots

@@ -3,13 +3,18 @@
 
 #![tactic(auto)]
 
+pub mod crew;
+mod ends;
+pub mod here;
 mod placed;
 pub mod solver;
 mod sorting;
 pub mod window;
+mod worker;
 
+pub use crew::work_all;
 pub use fb_book::{Entry, Kind};
-pub use fb_desk::{work_all, work_here};
 pub use fb_hands::{Finished, Gate, Hands, OpenGate, Worked};
+pub use here::work_here;
 pub use solver::{Counts, Solved, Solver, Tools};
 pub use window::{Crew, Window, decode_here, decode_window};

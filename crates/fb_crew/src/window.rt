@@ -2,23 +2,24 @@
 
 ghost use Rattle.std.specs.Prelude.{◌≡◌, ◌≤◌, length, ℕ, All, IfOk, IfSome};
 ghost use Rattle.fb_graph.specs.Limits.{IsShot};
-ghost use Rattle.fb_plan.specs.Plans.{IsPlan, root_of};
+ghost use Rattle.fb_plan.specs.Plans.{IsPlan, node_count, root_of};
 ghost use Rattle.fb_hands.specs.Jobs.{IsCompleteOf};
+ghost use Rattle.fb_slots.specs.Ordered.{IsByItem};
 ghost use Rattle.fb_crew.specs.InternalWindows.{AreRowsOf, AreSolvedRoots, IsSorted};
 ghost use Rattle.fb_crew.specs.Windows.{AreRows, IsHistoryOf};
 
+use crate::crew::work_all;
+use crate::here::work_here;
 use crate::placed::Placed;
 use crate::solver::{Solved, Solver, Tools};
 use crate::sorting::{Sorted, join_rows, renumber, sort_out};
 use fb_book::{Entry, MOST_AT_ONCE, MOST_WORKERS};
-use fb_desk::{work_all, work_here};
 use fb_graph::{Components, Graph, NoMemory, Row, Shot, Whole, components};
 use fb_half::both::both;
 use fb_hands::{Finished, Gate, Worked};
 use fb_plan::{Job, Plan};
 use std::alloc::Global;
 use std::marker::Model;
-use std::sync::Wait;
 use std::thread::Threads;
 
 /// The rows of some shots, and which worker took and gave which part of them: an entry's slot is the place of its shot.
@@ -76,7 +77,7 @@ impl<'a> Crew<'a> {
     }
 
     /// The rows of shots, and how they were made. With one worker everything is done on the calling thread.
-    pub fn decode_window<G: Gate, R: Threads + Wait + Sync>(
+    pub fn decode_window<G: Gate, R: Threads + Sync>(
         &mut self,
         rt: &R,
         alloc: Global,
@@ -121,7 +122,7 @@ impl<'a> Crew<'a> {
 }
 
 /// The rows of shots and how they were made by this number of workers, and the workers' tools.
-fn solve_window<G: Gate, R: Threads + Wait + Sync>(
+fn solve_window<G: Gate, R: Threads + Sync>(
     rt: &R,
     alloc: Global,
     graph: &Graph,
@@ -169,7 +170,7 @@ fn solve_window<G: Gate, R: Threads + Wait + Sync>(
 
 /// The rows of shots by this number of workers, and how they were made. What a `Crew` does for each of its windows, but with
 /// tools for this one alone.
-pub fn decode_window<G: Gate, R: Threads + Wait + Sync>(
+pub fn decode_window<G: Gate, R: Threads + Sync>(
     rt: &R,
     alloc: Global,
     graph: &Graph,
@@ -241,6 +242,7 @@ fn join_window(
     requires sorted { IsSorted job.now.graph shots.now odd.now job.now.shots places.now }
     requires roots { AreSolvedRoots job.now roots.items }
     requires history { IsCompleteOf job.now history.items }
+    requires order { IsByItem (node_count job.now.plan) history.items }
     ensures { (workers : ℕ) → All (λ e. e.worker ≤ workers) history.items → IfOk result (λ w.
         AreRows job.now.graph shots.now w.rows.items × IsHistoryOf job.now.plan workers w.rows.items w.history.items) }
 {

@@ -28,18 +28,19 @@ all_last p xs x h = subst p (get_or-append_right xs (x ∷ []) (length xs) (leng
     ap (λ i. get_or (x ∷ []) i x) z)) (h (length xs + 0) x (let l = length-append xs (x ∷ []) in
     omega (arith, l)))
 
+-- with one seat more at the end
+pub entries_last : (xs : List SeatValue) (x : SeatValue) → entries_in (xs ++ x ∷ []) ≡ entries_in
+    xs ++ x.entries
+entries_last [] x = append-nil x.entries
+entries_last (y ∷ xs) x =
+    ap (λ es. y.entries ++ es) (entries_last xs x)
+    ∙ sym (append_assoc y.entries (entries_in xs) x.entries)
+
+ends_last : (xs : List SeatValue) (x : SeatValue) → ends_in (xs ++ x ∷ []) ≡ ends_in xs + x.ends
+ends_last [] x = omega arith
+ends_last (y ∷ xs) x = let r = ends_last xs x in omega (arith, r)
+
 module _ (own free : SeatValue → Type 0) (b : Layout) (all : List SeatValue) where
-  entries_last : (xs : List SeatValue) (x : SeatValue) → entries_in (xs ++ x ∷ []) ≡ entries_in
-      xs ++ x.entries
-  entries_last [] x = append-nil x.entries
-  entries_last (y ∷ xs) x =
-      ap (λ es. y.entries ++ es) (entries_last xs x)
-      ∙ sym (append_assoc y.entries (entries_in xs) x.entries)
-
-  ends_last : (xs : List SeatValue) (x : SeatValue) → ends_in (xs ++ x ∷ []) ≡ ends_in xs + x.ends
-  ends_last [] x = omega arith
-  ends_last (y ∷ xs) x = let r = ends_last xs x in omega (arith, r)
-
   -- the last seat's view, before the others
   pub gathered_first : (xs : List SeatValue) (x : SeatValue) (u : Hand) → All own all → All free all
       → all ≡ xs ++ x ∷ []

@@ -15,3 +15,4 @@ pub mod Taking
 pub mod Ran
 pub mod Numbers
 pub mod Seating
+pub mod Ordering

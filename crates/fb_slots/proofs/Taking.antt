@@ -18,7 +18,7 @@ taker-append : (xs ys : List (Kind × ℕ)) (w : ℕ) → taker_of (xs ++ ys) w 
 taker-append [] ys w = refl
 taker-append (x ∷ xs) ys w = taker-append xs ys (next_taker x.0 x.1 w)
 
-trace_one : (n k : ℕ) (e : Entry) (t : Bool) → (place n e == k) ≡ t
+pub trace_one : (n k : ℕ) (e : Entry) (t : Bool) → (place n e == k) ≡ t
     → trace n k (e ∷ []) ≡ cond t ((e.kind, e.worker) ∷ []) []
 trace_one n k e true f = ap (λ t. map (λ (x : Entry). (x.kind, x.worker)) (cond t (e ∷ []) [])) f
 trace_one n k e false f = ap (λ t. map (λ (x : Entry). (x.kind, x.worker)) (cond t (e ∷ []) [])) f

@@ -6,6 +6,7 @@ ghost use Rattle.std.specs.List.{All};
 ghost use Rattle.fb_book.specs.Machine.{IsComplete, trace};
 ghost use Rattle.fb_plan.specs.Plans.{node_count};
 ghost use Rattle.fb_slots.specs.Listed.{IsOrdered, IsWhole, listed_by, listing, gains, taker_of};
+ghost use Rattle.fb_slots.specs.Ordered.{IsByItem};
 ghost use Rattle.fb_slots.specs.Slots.{IsWithin, layout_of};
 ghost use Rattle.fb_book.specs.InternalBoard.{node_limit};
 
@@ -53,7 +54,7 @@ fn takers(
 }
 
 /// All entries by slot, then node, each item's in the order in which they were made. The machine allows the list, and
-/// it is complete.
+/// it is complete. No order in time is told between items.
 pub fn history_of<N: Board>(
     alloc: Global,
     job: &Job<'_>,
@@ -65,6 +66,8 @@ pub fn history_of<N: Board>(
     requires whole { IsWhole (layout_of N.job N.workers) entries.now }
     ensures listing { IfOk result (λ h. h.items ≡ listing (layout_of N.job N.workers).nodes
         (layout_of N.job N.workers).count entries.now) }
+    ensures order { IfOk result (λ h. IsByItem (node_count N.job.plan) h.items) }
+    ensures count { IfOk result (λ h. length h.items ≡ length entries.now) }
     ensures workers { IfOk result (λ h. All (λ e. e.worker ≤ N.workers) h.items) }
     ensures complete { IfOk result (λ h. IsComplete (layout_of N.job N.workers).kids
         (layout_of N.job N.workers).nodes (layout_of N.job N.workers).count h.items) }

@@ -32,7 +32,7 @@ pub returns : goal.returns
 returns c workers by =
     let made = window_made c.args.job.now.graph c.args.job.now.plan c.requires.plan c.args.shots.now c.args.odd.now c.args.job.now.shots c.args.places.now
     c.requires.sorted workers c.args.job.now refl c.in_ok-solved.solved.items c.args.history.items
-    (solved_at (goal.at.returns c).In_ok-solved) c.requires.history by in (
+    (solved_at (goal.at.returns c).In_ok-solved) c.requires.history by c.requires.order in (
       subst (AreRows c.args.job.now.graph c.args.shots.now) (sym c.in_ok-rows.ensures) made.0,
       subst (λ (history : List Entry). IsHistoryOf c.args.job.now.plan workers c.in_ok-rows.rows.items history) (sym c.renumber.ensures)
           (subst (λ (rows : List Row). IsHistoryOf c.args.job.now.plan workers rows (with_places c.args.places.now c.args.history.items))

@@ -4,8 +4,10 @@ use Rattle.std.proofs.lemmas.List.{length-append}
 use Rattle.fb_book.specs.declared.entries.Entry.{Entry}
 use Rattle.fb_book.specs.Machine.{IsComplete}
 use Rattle.fb_slots.specs.Listed.{listed_by, gains}
+use Rattle.fb_slots.specs.Ordered.{IsByItem}
 use Rattle.fb_slots.specs.Slots.{layout_of}
 use Rattle.fb_slots.proofs.Layouts.{is_layout}
+use Rattle.fb_slots.proofs.Ordering.{as_many, by_item}
 use Rattle.fb_slots.proofs.Taking.{listed_step, all_listing, all_complete, other_default}
 use Rattle.std.specs.List.{All}
 use Rattle.fb_slots.proofs.Ran.{by_listing, within_by}
@@ -66,9 +68,11 @@ ended es h n m place count all e f g more less =
     let at : place ≡ all = omega (arith, g, more, less) in
     e ∙ (ap (λ x. listed_by gains x es place) f ∙ ap (listed_by gains m es) at)
 
-pub returns-clause-listing : goal.returns-clause-listing
-returns-clause-listing g c =
+pub returns : goal.returns
+returns g c =
     let job = g.N.Board.job in
+    let es = c.args.entries.now in
+    let b = layout_of job g.N.Board.workers in
     let same : c.plan-plan.result.now ≡ job.plan = plan_is job c.args.job.now c.plan-plan.result.now
     c.requires.job c.plan-plan.ensures in
     let tree : IsTree job.plan = subst IsTree same c.keeps-2.ensures.tree in
@@ -79,53 +83,18 @@ returns-clause-listing g c =
     let count = count_is job c.args.job.now (length c.shots.result.now) c.nodes-nodes.result
     c.count_of-count.result c.requires.job (ap length c.shots.ensures) nodes
     c.count_of-count.ensures.value in
-    ended c.args.entries.now c.loop-place.history.items c.nodes-nodes.result (node_count job.plan)
+    let is = is_layout job g.N.Board.workers tree few c.requires.workers in
+    let all = ended es c.loop-place.history.items c.nodes-nodes.result (node_count job.plan)
     c.loop-place.place c.count_of-count.result (length job.shots * node_count job.plan)
-    c.loop-place.invariant.0 nodes count c.loop-place-test.false c.loop-place.auto.place-end
-    ∙ all_listing (layout_of job g.N.Board.workers) (is_layout job g.N.Board.workers tree few
-    c.requires.workers) c.args.entries.now c.requires.whole
-
-pub returns-clause-complete : goal.returns-clause-complete
-returns-clause-complete g c =
-    let job = g.N.Board.job in
-    let b = layout_of job g.N.Board.workers in
-    let same : c.plan-plan.result.now ≡ job.plan = plan_is job c.args.job.now c.plan-plan.result.now
-    c.requires.job c.plan-plan.ensures in
-    let tree : IsTree job.plan = subst IsTree same c.keeps-2.ensures.tree in
-    let few : length job.shots < 4294967296 = subst (λ j. length j.shots < 4294967296)
-    (sym c.requires.job) c.keeps.ensures.count in
-    let nodes : c.nodes-nodes.result ≡ node_count job.plan = c.nodes-nodes.ensures
-    ∙ ap node_count same in
-    let count = count_is job c.args.job.now (length c.shots.result.now) c.nodes-nodes.result
-    c.count_of-count.result c.requires.job (ap length c.shots.ensures) nodes
-    c.count_of-count.ensures.value in
-    let all = ended c.args.entries.now c.loop-place.history.items c.nodes-nodes.result
-    (node_count job.plan) c.loop-place.place c.count_of-count.result
-    (length job.shots * node_count job.plan)
     c.loop-place.invariant.0 nodes count c.loop-place-test.false c.loop-place.auto.place-end in
-    subst (IsComplete b.kids b.nodes b.count) (sym all)
-    (all_complete b (is_layout job g.N.Board.workers tree few c.requires.workers)
-    c.args.entries.now c.requires.whole c.requires.ordered)
-
-pub returns-clause-workers : goal.returns-clause-workers
-returns-clause-workers g c =
-    let job = g.N.Board.job in
-    let same : c.plan-plan.result.now ≡ job.plan = plan_is job c.args.job.now c.plan-plan.result.now
-    c.requires.job c.plan-plan.ensures in
-    let tree : IsTree job.plan = subst IsTree same c.keeps-2.ensures.tree in
-    let few : length job.shots < 4294967296 = subst (λ j. length j.shots < 4294967296)
-    (sym c.requires.job) c.keeps.ensures.count in
-    let nodes : c.nodes-nodes.result ≡ node_count job.plan = c.nodes-nodes.ensures
-    ∙ ap node_count same in
-    let count = count_is job c.args.job.now (length c.shots.result.now) c.nodes-nodes.result
-    c.count_of-count.result c.requires.job (ap length c.shots.ensures) nodes
-    c.count_of-count.ensures.value in
-    let b = layout_of job g.N.Board.workers in
-    let all = ended c.args.entries.now c.loop-place.history.items c.nodes-nodes.result
-    (node_count job.plan) c.loop-place.place c.count_of-count.result
-    (length job.shots * node_count job.plan)
-    c.loop-place.invariant.0 nodes count c.loop-place-test.false c.loop-place.auto.place-end
-    ∙ all_listing (layout_of job g.N.Board.workers) (is_layout job g.N.Board.workers tree few
-    c.requires.workers) c.args.entries.now c.requires.whole in
-    subst (All (λ e. e.worker ≤ g.N.Board.workers)) (sym all) (by_listing g.N.Board.workers b.nodes
-    b.count c.args.entries.now (within_by b c.args.entries.now c.requires.whole.within))
+    let listed = all ∙ all_listing b is es c.requires.whole in
+    record {
+      listing = listed;
+      order = subst (IsByItem (node_count job.plan)) (sym all) (by_item b es c.requires.whole);
+      count = ap length all ∙ as_many b es c.requires.whole;
+      workers = subst (All (λ e. e.worker ≤ g.N.Board.workers)) (sym listed)
+          (by_listing g.N.Board.workers b.nodes b.count es
+          (within_by b es c.requires.whole.within));
+      complete = subst (IsComplete b.kids b.nodes b.count) (sym all)
+          (all_complete b is es c.requires.whole c.requires.ordered);
+    }

@@ -1,0 +1,14 @@
+-- The seats of a crew's workers at a board without a lock.
+use Rattle.std.specs.Prelude.{◌≡◌, ◌<◌, None}
+use Rattle.atomic_table.specs.Seated.{TableId}
+use Rattle.fb_slots.specs.Seats.{SeatValue, new_seat}
+
+-- nothing was done at the seat
+abbrev pub IsNew : TableId → SeatValue → Type 0
+IsNew board s = s ≡ new_seat board s.worker
+
+-- The seat of a worker that found no unit left, and holds nothing.
+pub record IsEnded (board : TableId) (s : SeatValue) : Type 0 where
+  pub own : s.board ≡ board
+  pub free : s.held ≡ None
+  pub ended : 0 < s.ends
