@@ -25,7 +25,6 @@ use fb_report::{write_row, write_trace};
 use fb_request::Decoding;
 use fb_shots::ShotStream;
 use std::alloc::Global;
-use std::sync::Wait;
 use std::thread::Threads;
 
 /// How many rows are corrections, and how many are odd.
@@ -90,7 +89,7 @@ impl Tally {
 
 /// Decodes the shots of the current file, of which nothing was read yet, and writes their rows. At most the shots of one
 /// window are held at a time, and their rows are written before the next ones are taken.
-pub fn decode_file<F: Files, O: Sink, G: Gate, R: Threads + Wait + Sync>(
+pub fn decode_file<F: Files, O: Sink, G: Gate, R: Threads + Sync>(
     rt: &R,
     alloc: Global,
     request: &Decoding<'_>,
@@ -134,7 +133,7 @@ pub fn decode_file<F: Files, O: Sink, G: Gate, R: Threads + Wait + Sync>(
 }
 
 /// Decodes the shots of a stream that has read nothing yet, by an outbox in which nothing waits.
-fn decode_stream<F: Files, O: Sink, G: Gate, R: Threads + Wait + Sync>(
+fn decode_stream<F: Files, O: Sink, G: Gate, R: Threads + Sync>(
     rt: &R,
     alloc: Global,
     request: &Decoding<'_>,
@@ -176,7 +175,7 @@ fn decode_stream<F: Files, O: Sink, G: Gate, R: Threads + Wait + Sync>(
 }
 
 /// Takes the next shots of a stream, and solves them.
-fn next_batch<F: Files, G: Gate, R: Threads + Wait + Sync>(
+fn next_batch<F: Files, G: Gate, R: Threads + Sync>(
     rt: &R,
     alloc: Global,
     request: &Decoding<'_>,
@@ -205,7 +204,7 @@ fn next_batch<F: Files, G: Gate, R: Threads + Wait + Sync>(
 
 /// The rows of a batch of shots, and if the history is wanted, how they were made. If it isn't, shots without a defect
 /// need no worker.
-fn solve_batch<G: Gate, R: Threads + Wait + Sync>(
+fn solve_batch<G: Gate, R: Threads + Sync>(
     rt: &R,
     alloc: Global,
     crew: &mut Crew<'_>,

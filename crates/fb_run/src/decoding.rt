@@ -21,12 +21,11 @@ use fb_ports::{Files, Sink};
 use fb_report::{write_done, write_head};
 use fb_request::Decoding;
 use std::alloc::Global;
-use std::sync::Wait;
 use std::thread::Threads;
 
 /// Decodes the shots of the files that are named: the graph is read and judged, and then the plan, if one is named; the
 /// head is written, the shots are read, and their rows are written.
-pub fn decode<F: Files, O: Sink, G: Gate, R: Threads + Wait + Sync>(
+pub fn decode<F: Files, O: Sink, G: Gate, R: Threads + Sync>(
     rt: &R,
     alloc: Global,
     request: &Decoding<'_>,
@@ -51,7 +50,7 @@ pub fn decode<F: Files, O: Sink, G: Gate, R: Threads + Wait + Sync>(
 }
 
 /// Decodes the shots of the file that is named, for a graph: by the plan of the file that is named, or by that of one unit.
-fn decode_on<F: Files, O: Sink, G: Gate, R: Threads + Wait + Sync>(
+fn decode_on<F: Files, O: Sink, G: Gate, R: Threads + Sync>(
     rt: &R,
     alloc: Global,
     request: &Decoding<'_>,
@@ -84,7 +83,7 @@ fn decode_on<F: Files, O: Sink, G: Gate, R: Threads + Wait + Sync>(
 
 /// Decodes the shots of the file that is named, for a graph and a plan of it, by a crew for these: the head is written, the
 /// shots are read, and their rows are written.
-fn decode_by<F: Files, O: Sink, G: Gate, R: Threads + Wait + Sync>(
+fn decode_by<F: Files, O: Sink, G: Gate, R: Threads + Sync>(
     rt: &R,
     alloc: Global,
     request: &Decoding<'_>,
@@ -113,7 +112,7 @@ fn decode_by<F: Files, O: Sink, G: Gate, R: Threads + Wait + Sync>(
 
 /// Decodes the shots of the file that is named by a crew for a graph and a plan of it: the head is written, the shots are
 /// read, and their rows are written.
-fn decode_with<F: Files, O: Sink, G: Gate, R: Threads + Wait + Sync>(
+fn decode_with<F: Files, O: Sink, G: Gate, R: Threads + Sync>(
     rt: &R,
     alloc: Global,
     request: &Decoding<'_>,

@@ -21,12 +21,11 @@ use fb_ports::{Files, Sink, put_all};
 use fb_request::{Request, UsageKind};
 use fb_words::{WordsFault, read_words};
 use std::alloc::Global;
-use std::sync::Wait;
 use std::thread::Threads;
 
 /// Runs the program on the words of a command line, the program's name first: reads the files that they name, writes
 /// the report to `out`, and writes to `err` why it ended if the report doesn't show it.
-pub fn run<F: Files, O: Sink, E: Sink, G: Gate, R: Threads + Wait + Sync>(
+pub fn run<F: Files, O: Sink, E: Sink, G: Gate, R: Threads + Sync>(
     rt: &R,
     alloc: Global,
     words: &[String],
@@ -69,7 +68,7 @@ pub fn run<F: Files, O: Sink, E: Sink, G: Gate, R: Threads + Wait + Sync>(
 }
 
 /// Does what the words ask for, or writes to `err` what is wrong with an invalid command line.
-fn run_words<F: Files, O: Sink, E: Sink, G: Gate, R: Threads + Wait + Sync>(
+fn run_words<F: Files, O: Sink, E: Sink, G: Gate, R: Threads + Sync>(
     rt: &R,
     alloc: Global,
     words: &[String],
@@ -95,7 +94,7 @@ fn run_words<F: Files, O: Sink, E: Sink, G: Gate, R: Threads + Wait + Sync>(
 }
 
 /// Does what the words ask for.
-fn run_request<F: Files, O: Sink, G: Gate, R: Threads + Wait + Sync>(
+fn run_request<F: Files, O: Sink, G: Gate, R: Threads + Sync>(
     rt: &R,
     alloc: Global,
     request: &Request<'_>,

@@ -24,12 +24,11 @@ use fb_plan::Plan;
 use fb_ports::Sink;
 use fb_request::Sampling;
 use std::alloc::Global;
-use std::sync::Wait;
 use std::thread::Threads;
 
 /// Draws shots on a lattice, decodes them by a plan by time, and writes how many defects they have and what their
 /// corrections weigh. Nothing is written before the last shot is decoded.
-pub fn sample<O: Sink, G: Gate, R: Threads + Wait + Sync>(
+pub fn sample<O: Sink, G: Gate, R: Threads + Sync>(
     rt: &R,
     alloc: Global,
     request: &Sampling,
@@ -47,7 +46,7 @@ pub fn sample<O: Sink, G: Gate, R: Threads + Wait + Sync>(
 }
 
 /// Draws the shots of a sample on its lattice, decodes them by a plan by time, and writes their sums.
-fn sample_lattice<O: Sink, G: Gate, R: Threads + Wait + Sync>(
+fn sample_lattice<O: Sink, G: Gate, R: Threads + Sync>(
     rt: &R,
     alloc: Global,
     request: &Sampling,
@@ -74,7 +73,7 @@ fn sample_lattice<O: Sink, G: Gate, R: Threads + Wait + Sync>(
 }
 
 /// Draws the shots of a sample on its lattice, decodes them by its plan, and writes their sums.
-fn sample_by<O: Sink, G: Gate, R: Threads + Wait + Sync>(
+fn sample_by<O: Sink, G: Gate, R: Threads + Sync>(
     rt: &R,
     alloc: Global,
     request: &Sampling,
@@ -113,7 +112,7 @@ fn cause_of_sample(fault: GenFault) -> Cause
 }
 
 /// Draws the shots on the graph and decodes them by the plan, a window at a time.
-fn sample_on<G: Gate, R: Threads + Wait + Sync>(
+fn sample_on<G: Gate, R: Threads + Sync>(
     rt: &R,
     alloc: Global,
     request: &Sampling,
@@ -130,7 +129,7 @@ fn sample_on<G: Gate, R: Threads + Wait + Sync>(
 }
 
 /// Draws the shots on the graph and decodes them by a crew for it, a window at a time.
-fn sample_with<G: Gate, R: Threads + Wait + Sync>(
+fn sample_with<G: Gate, R: Threads + Sync>(
     rt: &R,
     alloc: Global,
     request: &Sampling,
