@@ -1,7 +1,7 @@
 """Reads graphs, plans, shots and reports, each by a plain walk over its whole text, or names the first rule that it breaks.
 
-Nothing here is shared with the program. JSON is RFC 8259; the shots are those of Stim's result formats `01`, `b8` and
-`dets`, and Fusion Blossom's syndromes, a JSON value to a line; the report is the text of docs/reports.md.
+Nothing here is shared with the program. JSON is RFC 8259; the shots are those of Stim's result formats `01`, `b8`, `dets`,
+`hits` and `r8`, and Fusion Blossom's syndromes, a JSON value to a line; the report is the text of docs/reports.md.
 """
 
 import json
@@ -351,6 +351,39 @@ def records_dets(text, graph):
         yield [vertices[k] for k in places]
 
 
+def records_hits(text, graph):
+    vertices = detectors(graph)
+    for line in lines_of(text):
+        places = []
+        for hit in without_return(line).split(b",") if without_return(line) else []:
+            if not re.fullmatch(b"[0-9]+", hit):
+                raise Refused("BadToken")
+            place = place_below(hit, len(vertices))
+            if place in places:
+                raise Refused("RepeatedIndex")
+            places.append(place)
+        yield [vertices[k] for k in places]
+
+
+def records_r8(text, graph):
+    vertices = detectors(graph)
+    place, hits = 0, []
+    for byte in text:
+        place += byte
+        if place > len(vertices):
+            raise Refused("LongRecord")
+        if byte == 255:
+            continue
+        if place == len(vertices):
+            yield hits
+            place, hits = 0, []
+        else:
+            hits.append(vertices[place])
+            place += 1
+    if place:
+        raise Refused("ShortRecord")
+
+
 def place_below(digits, count):
     """The number of some digits, where it is below a count."""
     digits = digits.lstrip(b"0") or b"0"
@@ -386,7 +419,14 @@ def defects_of(value, graph):
     return entries
 
 
-RECORDS = {"01": records_01, "b8": records_b8, "dets": records_dets, "json": records_json}
+RECORDS = {
+    "01": records_01,
+    "b8": records_b8,
+    "dets": records_dets,
+    "hits": records_hits,
+    "r8": records_r8,
+    "json": records_json,
+}
 
 
 # The report. A row is ["best", edges, weight, cuts] or ["odd", vertex]; a cut is a value and its vertices.
