@@ -6,10 +6,12 @@ use Rattle.fb_shots_stim.specs.declared.answer.Kind.{Kind as StimKind}
 use Rattle.fb_shots_stim.specs.Text01.{records_01, prefix_01}
 use Rattle.fb_shots_stim.specs.BlocksB8.{records_b8, prefix_b8}
 use Rattle.fb_shots_stim.specs.TextDets.{records_dets, prefix_dets}
+use Rattle.fb_shots_stim.specs.TextHits.{records_hits, prefix_hits}
+use Rattle.fb_shots_stim.specs.RunsR8.{records_r8, prefix_r8}
 use Rattle.fb_shots_json.specs.declared.answer.Kind.{Kind as JsonKind}
 use Rattle.fb_shots_json.specs.TextJson.{records_json, prefix_json}
 use Rattle.fb_request.specs.declared.format.Format.{Format}
-use Rattle.fb_request.specs.declared.format.Format.TheVariants.{Text01, B8, Dets, Json}
+use Rattle.fb_request.specs.declared.format.Format.TheVariants.{Text01, B8, Dets, Hits, R8, Json}
 use Rattle.fb_shots.specs.declared.answer.Kind.TheVariants as kind
 use Rattle.fb_shots.specs.Shots.{Shots, GoesOn}
 
@@ -38,6 +40,8 @@ abbrev pub records_of : Format → DecodingGraph → List ℕ → Shots
 records_of Text01 g bytes = of_stim g (records_01 (length (detectors_of g)) bytes)
 records_of B8 g bytes = of_stim g (records_b8 (length (detectors_of g)) bytes)
 records_of Dets g bytes = of_stim g (records_dets (length (detectors_of g)) bytes)
+records_of Hits g bytes = of_stim g (records_hits (length (detectors_of g)) bytes)
+records_of R8 g bytes = of_stim g (records_r8 (length (detectors_of g)) bytes)
 records_of Json g bytes = of_json (records_json g bytes)
 
 -- what is settled by a prefix of an input
@@ -45,6 +49,8 @@ abbrev pub prefix_of : Format → DecodingGraph → List ℕ → Shots
 prefix_of Text01 g bytes = of_stim g (prefix_01 (length (detectors_of g)) bytes)
 prefix_of B8 g bytes = of_stim g (prefix_b8 (length (detectors_of g)) bytes)
 prefix_of Dets g bytes = of_stim g (prefix_dets (length (detectors_of g)) bytes)
+prefix_of Hits g bytes = of_stim g (prefix_hits (length (detectors_of g)) bytes)
+prefix_of R8 g bytes = of_stim g (prefix_r8 (length (detectors_of g)) bytes)
 prefix_of Json g bytes = of_json (prefix_json g bytes)
 
 -- Some bytes may be cut in two anywhere: what the first part settles comes first in all that they hold.

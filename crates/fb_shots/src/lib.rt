@@ -1,4 +1,4 @@
-//! The shots of a file in order, in any of four formats, read in pieces.
+//! The shots of a file in order, in any of six formats, read in pieces.
 #![tactic(auto)]
 
 mod answer;

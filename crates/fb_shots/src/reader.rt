@@ -13,7 +13,7 @@ use crate::mapping::shot_of_detectors;
 use fb_graph::{Graph, Shot};
 use fb_records::{Next, Numbers};
 use fb_shots_json::RecordsJson;
-use fb_shots_stim::{Records01, RecordsB8, RecordsDets};
+use fb_shots_stim::{Records01, RecordsB8, RecordsDets, RecordsHits, RecordsR8};
 use std::alloc::Global;
 use std::marker::Model;
 
@@ -23,6 +23,8 @@ enum FormatReader<'a> {
     Text01(Records01),
     B8(RecordsB8),
     Dets(RecordsDets),
+    Hits(RecordsHits),
+    R8(RecordsR8),
     Json(RecordsJson<'a>),
 }
 
@@ -37,6 +39,8 @@ impl<'a> FormatReader<'a> {
             Format::Text01 => FormatReader::Text01(Records01::new(alloc, detectors)),
             Format::B8 => FormatReader::B8(RecordsB8::new(alloc, detectors)),
             Format::Dets => FormatReader::Dets(RecordsDets::new(alloc, detectors)),
+            Format::Hits => FormatReader::Hits(RecordsHits::new(alloc, detectors)),
+            Format::R8 => FormatReader::R8(RecordsR8::new(alloc, detectors)),
             Format::Json => FormatReader::Json(RecordsJson::new(alloc, graph)),
         }
     }
@@ -53,6 +57,8 @@ impl<'a> FormatReader<'a> {
             FormatReader::Text01(reader) => reader.feed(piece),
             FormatReader::B8(reader) => reader.feed(piece),
             FormatReader::Dets(reader) => reader.feed(piece),
+            FormatReader::Hits(reader) => reader.feed(piece),
+            FormatReader::R8(reader) => reader.feed(piece),
             FormatReader::Json(reader) => reader.feed(piece),
         }
     }
@@ -66,6 +72,8 @@ impl<'a> FormatReader<'a> {
             FormatReader::Text01(reader) => reader.finish(),
             FormatReader::B8(reader) => reader.finish(),
             FormatReader::Dets(reader) => reader.finish(),
+            FormatReader::Hits(reader) => reader.finish(),
+            FormatReader::R8(reader) => reader.finish(),
             FormatReader::Json(reader) => reader.finish(),
         }
     }
@@ -80,6 +88,8 @@ impl<'a> FormatReader<'a> {
             FormatReader::Text01(reader) => Ok(on_vertices(graph, reader.next()?)),
             FormatReader::B8(reader) => Ok(on_vertices(graph, reader.next()?)),
             FormatReader::Dets(reader) => Ok(on_vertices(graph, reader.next()?)),
+            FormatReader::Hits(reader) => Ok(on_vertices(graph, reader.next()?)),
+            FormatReader::R8(reader) => Ok(on_vertices(graph, reader.next()?)),
             FormatReader::Json(reader) => Ok(of_vertices(graph, reader.next()?)),
         }
     }
