@@ -32,10 +32,21 @@ PLAN = {
 }
 DETECTORS = [v for v in range(11) if v not in GRAPH["virtual_vertices"]]
 SHOTS = [[], [3], [1, 2, 5], [8], [2, 3, 4, 9, 10], [1, 8, 9, 10], [1, 6, 8, 10]]
+
+
+def runs(hits):
+    """The bytes of a shot in `r8`, by the detectors that fired: how many didn't before each, and after the last."""
+    starts, ends = [0, *(k + 1 for k in hits)], [*hits, len(DETECTORS)]
+    return bytes(end - start for start, end in zip(starts, ends))
+
+
+HITS = [[DETECTORS.index(v) for v in shot] for shot in SHOTS]
 RECORDS = {
     "01": ["".join("01"[v in shot] for v in DETECTORS).encode() + b"\n" for shot in SHOTS],
     "b8": [sum(1 << k for k, v in enumerate(DETECTORS) if v in shot).to_bytes(2, "little") for shot in SHOTS],
-    "dets": [" ".join(["shot", *(f"D{DETECTORS.index(v)}" for v in shot)]).encode() + b"\n" for shot in SHOTS],
+    "dets": [" ".join(["shot", *(f"D{k}" for k in hits)]).encode() + b"\n" for hits in HITS],
+    "hits": [",".join(map(str, hits)).encode() + b"\n" for hits in HITS],
+    "r8": [runs(hits) for hits in HITS],
     "json": [json.dumps({"defect_vertices": shot}).encode() + b"\n" for shot in SHOTS],
 }
 SAMPLE = {"distance": 3, "rounds": 3, "units": 2, "rate": 200_000, "start": 5, "shots": 4}

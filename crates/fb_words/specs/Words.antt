@@ -7,7 +7,7 @@ use Rattle.clap.specs.Words.{Row, Text, fault_of, first_of, one_of, subcommand_o
 use Rattle.fb_words.specs.Command.{fusion_app}
 use Rattle.fb_request.specs.Requests.{Request, Sampling, check, decode, sample}
 use Rattle.fb_request.specs.declared.format.Format.{Format}
-use Rattle.fb_request.specs.declared.format.Format.TheVariants.{Text01, B8, Dets, Json}
+use Rattle.fb_request.specs.declared.format.Format.TheVariants.{Text01, B8, Dets, Hits, R8, Json}
 use Rattle.fb_request.specs.declared.usage.UsageKind.{UsageKind}
 use Rattle.fb_request.specs.declared.usage.UsageKind.TheVariants as usage
 
@@ -17,7 +17,9 @@ format_of word =
     if bytes_eq word (codes "01") then Some Text01
     else (if bytes_eq word (codes "b8") then Some B8
     else (if bytes_eq word (codes "dets") then Some Dets
-    else (if bytes_eq word (codes "json") then Some Json else None)))
+    else (if bytes_eq word (codes "hits") then Some Hits
+    else (if bytes_eq word (codes "r8") then Some R8
+    else (if bytes_eq word (codes "json") then Some Json else None)))))
 
 -- the name of standard input
 abbrev pub is_standard_input : Text → Bool
@@ -125,6 +127,6 @@ request_unless [] command = command_request command
 request_unless (fault ∷ faults) command = Err usage.Parse
 
 -- What the words ask for, or what is wrong with them, whichever is first: clap doesn't take them, or they ask it for
--- help or the version; `--format` is none of the four; more than one name is that of standard input.
+-- help or the version; `--format` is none of the six; more than one name is that of standard input.
 abbrev pub request_of : List Text → Result Request UsageKind
 request_of words = request_unless (fault_of fusion_app words) (subcommand_of fusion_app words)

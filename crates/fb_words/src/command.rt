@@ -224,7 +224,7 @@ fn format<'a>(alloc: Global) -> Arg<'a>
         alloc,
         "format",
         "FORMAT",
-        "How the shots are written: 01, b8 or dets of Stim, or json, lines of JSON",
+        "How the shots are written: 01, b8, dets, hits or r8 of Stim, or json, lines of JSON",
     )
     .required(true)
 }

@@ -22,7 +22,7 @@ use std::alloc::Global;
 pub enum WordsFault {
     /// They are no command with its options, or they ask for help or the version. The text is for the user, of whole lines.
     Parse(String),
-    /// `--format` is none of the four.
+    /// `--format` is none of the six.
     Format,
     /// More than one name is that of standard input.
     TwoInputs,
@@ -213,6 +213,8 @@ fn format_of(word: &str) -> Option<Format>
         "01" => Some(Format::Text01),
         "b8" => Some(Format::B8),
         "dets" => Some(Format::Dets),
+        "hits" => Some(Format::Hits),
+        "r8" => Some(Format::R8),
         "json" => Some(Format::Json),
         _ => None,
     }
