@@ -11,7 +11,7 @@ pub enum Format {
     Dets,
     /// `hits`: a line for each shot, the indices of the detectors that fired, parted by commas.
     Hits,
-    /// `r8`: for each shot, a byte for each run of detectors that didn't fire, before each that did and after the last.
+    /// `r8`: for each shot, bytes that count the detectors that didn't fire before each that did and after the last.
     R8,
     /// `json`: a JSON value on a line for each shot, as Fusion Blossom writes a syndrome.
     Json,
