@@ -1,7 +1,7 @@
 -- The index of two children's parts beside one another has all their matches to the boundary, and so it does once the seam
 -- is opened.
 use Rattle.std.proofs.Common.{ℕ, ◌≡◌, ◌≢◌, ◌&&◌, true, false, List, [], ◌++◌, map, All, Option, Some, None, is_some, refl, sym, ap, ◌∙◌, subst}
-use Rattle.std.proofs.lemmas.Bool.{and_parts, both_ways, eq-eqb, eqb-true, false_from_ne_true, false≢true}
+use Rattle.std.proofs.lemmas.Bool.{and_parts, both_ways, eq-eqb, false_from_ne_true, false≢true}
 use Rattle.std.proofs.lemmas.List.Elements.{All-append, All-map, All-nil}
 use Rattle.std.specs.Prelude.{Result, Ok, Err, OnOk}
 use Rattle.fb_graph.specs.Laws.{Link}
@@ -31,6 +31,7 @@ use Rattle.fb_half.proofs.BesideLinks.{link_left, link_right}
 use Rattle.fb_half.proofs.BesideMatchings.{far_left, far_right}
 use Rattle.fb_half.proofs.FarEnds.{far_is, seam_far}
 use Rattle.fb_half.proofs.MergedHalves.{before, beside, link, live_left, live_right, middle, name, names_apart, names_own, nest_beside, parts, q, whole}
+use Rattle.fb_half.proofs.Reached.{owner_named}
 use Rattle.fb_half.proofs.SeamedLinks.{stays_among, stays_off}
 use Rattle.fb_half.proofs.SeamedMatchings.{link_is, still_unreal, was_match}
 use Rattle.fb_links.proofs.MovedLinks.{Table}
@@ -53,10 +54,6 @@ alone_second (Some b) h = absurd (false≢true h)
 second_back : (f : ℕ → ℕ) (o : Option ℕ) → renamed_second f o ≡ None → o ≡ None
 second_back f None h = refl
 second_back f (Some b) h = absurd (let clash : Some (f b) ≡ None = h in cc)
-
-owner_node : (n : ℕ) (o : Option ℕ) → is_node n o ≡ true → o ≡ Some n
-owner_node n None h = absurd (false≢true h)
-owner_node n (Some m) h = ap Some (eqb-true m n h)
 
 module _ (left right : PartValue) (n : ℕ) (limits : IsWithinLimits (problem_at left.job.graph left.job.plan n no_shot))
     (children : children_of left.job.plan n ≡ Some (left.node, right.node)) (one : IsPart left)
@@ -171,7 +168,7 @@ met_listed w s plan n listed are same_plan same_node is =
         (sym (met_far w are.beside m a) ∙ (sym (ap (λ t. meets_seam t w.node w.links m) same_plan) ∙ (sym (ap (λ k. meets_seam plan k w.links m) same_node) ∙ meets))) in
         ap (λ l. is_in l m.first) (is ∙ ap (names_under s) same_node)
         ∙ All_among (IsListed are.beside.problem.is_real w.job.plan s w.links) w.matching.matches are.listed m a w.node
-        (alone_second m.second both.0) (owner_node w.node (owner_of w.job.plan far) both.1)
+        (alone_second m.second both.0) (owner_named w.node (owner_of w.job.plan far) both.1)
 
 -- Once the seam is opened, and its list taken out of the index, it has all matches that stay.
 pub opened_listed : (names : List ℕ) (w after : PartValue) (s new : Seams) (are : AreBesideListed s w) → IsOpened names w after

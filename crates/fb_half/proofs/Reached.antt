@@ -58,7 +58,7 @@ owner_read n None = refl
 owner_read n (Some m) = refl
 
 -- who is the owner by the test is the owner
-owner_named : (n : ℕ) (o : Option ℕ) → is_node n o ≡ true → o ≡ Some n
+pub owner_named : (n : ℕ) (o : Option ℕ) → is_node n o ≡ true → o ≡ Some n
 owner_named n None h = absurd (false≢true h)
 owner_named n (Some m) h = ap Some (eqb-true m n h)
 

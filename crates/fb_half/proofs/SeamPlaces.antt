@@ -10,6 +10,7 @@ use Rattle.fb_graph.specs.Parity.{is_in}
 use Rattle.fb_half.specs.declared.matches.Match.{Match}
 use Rattle.fb_half.specs.InternalStandings.{has_name, no_match}
 use Rattle.fb_half.proofs.Lookups.{in_at, place_in}
+use Rattle.fb_graph.proofs.Booleans.{same_bool}
 use Rattle.fb_graph.proofs.Floods.{is_in-left}
 use Rattle.fb_graph.proofs.Members.{is_in-append, is_in_push, is_in_pushed}
 use Rattle.fb_graph.proofs.Sets.{is_in-All, is_in-cases, is_in-filter, is_in-range, range_below, range_rises, rising_same}
@@ -60,12 +61,7 @@ places_are test xs d places rising pass all =
         is_in-filter passes range v ∙ and_from (is_in range v) (passes v) (is_in-range (length xs) v less) is
 
     same : (v : ℕ) → is_in places v ≡ is_in (filter passes range) v
-    same v = by (is_in places v) (is_in (filter passes range) v) (back v) (within v)
-      where
-        by : (a b : Bool) → (a ≡ true → b ≡ true) → (b ≡ true → a ≡ true) → a ≡ b
-        by true b there back = sym (there refl)
-        by false true there back = back refl
-        by false false there back = refl
+    same v = same_bool (is_in places v) (is_in (filter passes range) v) (back v) (within v)
 
 -- so the elements there are those that a filter keeps
 pub placed : {X : Type 0} (f : X → ℕ) (test : X → Bool) (xs : List X) (d : X) (places : List ℕ) → IsStrictlyIncreasing places
