@@ -14,6 +14,7 @@ import sys
 
 sys.dont_write_bytecode = True
 from lattices import sample_text
+from layers import plan_text
 from readers import RECORDS, Refused, read_graph, read_plan, read_report, read_shots, whole_plan
 from traces import trace_complaints
 
@@ -221,9 +222,10 @@ OPTIONS = {
     "decode": ["--graph", "--shots", "--format"],
     "check": ["--graph", "--shots", "--format", "--report"],
     "sample": ["--distance", "--rounds", "--units", "--rate", "--start", "--shots"],
+    "plan": ["--graph", "--units"],
 }
-FREE = {"decode": ["--plan", "--workers", "--window"], "check": [], "sample": ["--workers", "--window"]}
-FLAGS = {"decode": ["--trace"], "check": [], "sample": []}
+FREE = {"decode": ["--plan", "--workers", "--window"], "check": [], "sample": ["--workers", "--window"], "plan": []}
+FLAGS = {"decode": ["--trace"], "check": [], "sample": [], "plan": []}
 NAMES = ["--graph", "--plan", "--shots", "--report"]
 RANGES = {
     "--workers": (1, 64),
@@ -275,7 +277,7 @@ def read_words(words):
     ranges = {**RANGES, "--shots": (1, MOST_SAMPLED_SHOTS)} if command == "sample" else RANGES
     for name in options.keys() & ranges.keys():
         options[name] = number_within(options[name], *ranges[name])
-    if command == "sample":
+    if "--format" not in options:
         return command, options
     if options["--format"] not in RECORDS:
         raise Usage(b"fusion: unknown format\n")
@@ -304,9 +306,14 @@ def complaints_of(words, files, answer):
     except Usage as usage:
         [said] = usage.args
         return differences(answer, b"", answer.stderr or b"some text" if said is None else said, 6)
-    answers = {"decode": decode_complaints, "check": check_complaints, "sample": sample_complaints}[command]
+    answers = {
+        "decode": decode_complaints,
+        "check": check_complaints,
+        "sample": sample_complaints,
+        "plan": plan_complaints,
+    }
     try:
-        return answers(options, files, answer)
+        return answers[command](options, files, answer)
     except Refused as fault:
         return differences(answer, b"", refusal(fault), 2)
     except NoFile:
@@ -343,6 +350,11 @@ def events_complaints(options, plan, graph, shots, text):
 def sample_complaints(options, files, answer):
     numbers = [options[name] for name in OPTIONS["sample"]]
     return differences(answer, sample_text(*numbers), b"", 0)
+
+
+def plan_complaints(options, files, answer):
+    graph = read_graph(opened(files, options["--graph"]))
+    return differences(answer, plan_text(graph, options["--units"]), b"", 0)
 
 
 def check_complaints(options, files, answer):

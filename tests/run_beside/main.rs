@@ -31,6 +31,7 @@ fn main(rt: HostRuntime) -> io::Result<()> {
         ("a decode from and to single bytes", runs::moves_single_bytes(&rt, alloc)),
         ("a check of good and of bad rows", runs::checks_rows(&rt, alloc)),
         ("samples of two lattices", runs::samples_lattices(&rt, alloc)),
+        ("plans of a graph by its layers", runs::plans_graphs(&rt, alloc)),
         ("each call of the files fails in turn", runs::fails_at_each_call(&rt, alloc)),
         ("each put fails in turn", runs::fails_at_each_put(&rt, alloc)),
         ("a reader that leaves stops the reads", runs::stops_reading(&rt, alloc)),

@@ -191,6 +191,27 @@ pub fn samples_lattices<R: Threads + Sync>(rt: &R, alloc: Global) -> Result<(), 
     Stopped::unless(answer.is(2, b"", b"fusion: refused TooFewRounds\n"), "the refusal")
 }
 
+/// Two units and one; too few layers; a put that fails after ten bytes.
+pub fn plans_graphs<R: Threads + Sync>(rt: &R, alloc: Global) -> Result<(), Stopped> {
+    let two = b"{\"units\":[[[1,2]],[[3,4]]],\"fusions\":[{\"of\":[0,1],\"interface\":[[2,3]]}]}\n".as_slice();
+    let one = b"{\"units\":[[[1,4]]],\"fusions\":[]}\n".as_slice();
+    for (units, text) in [("2", two), ("1", one)] {
+        let line = format!(in alloc; "fusion plan --graph g --units {units}")?;
+        let mut files = files_of(alloc, b"")?;
+        files.give_at_most(7);
+        let answer = run_with(rt, alloc, line.as_str(), &mut files)?;
+        Stopped::unless(answer.is(0, text, b""), "the plan")?;
+        Stopped::unless(files.asked().len() == 1, "how many names were asked for")?;
+    }
+    let mut files = files_of(alloc, b"")?;
+    let answer = run_with(rt, alloc, "fusion plan --graph g --units 3", &mut files)?;
+    Stopped::unless(answer.is(2, b"", b"fusion: refused TooFewLayers 3\n"), "the refusal")?;
+    let mut files = files_of(alloc, b"")?;
+    let out = MemSink::new(alloc, 10)?;
+    let answer = run_into(rt, alloc, "fusion plan --graph g --units 2", &mut files, out)?;
+    Stopped::unless(answer.is(4, &two[..10], b"fusion: write fault\n"), "the fault")
+}
+
 /// The rows that stand when a call of the files fails: those of the shots that the bytes read by then settle. The second shot
 /// has no newline, so that only the file's end settles it.
 pub fn fails_at_each_call<R: Threads + Sync>(rt: &R, alloc: Global) -> Result<(), Stopped> {

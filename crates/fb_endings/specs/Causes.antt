@@ -29,6 +29,7 @@ refusal_name (refusal.Plan fault) = plan.fault_name fault
 refusal_name (refusal.Report fault) = report.fault_name fault
 refusal_name (refusal.Shot fault) = shot.kind_name fault.kind
 refusal_name (refusal.Sample fault) = sample.fault_name fault
+refusal_name (refusal.TooFewLayers height) = codes "TooFewLayers"
 
 abbrev pub refusal_place : Refusal → Option (List ℕ)
 refusal_place (refusal.Graph fault) = graph.fault_place fault
@@ -36,6 +37,7 @@ refusal_place (refusal.Plan fault) = plan.fault_place fault
 refusal_place (refusal.Report fault) = report.fault_place fault
 refusal_place (refusal.Shot fault) = Some (codes "shot")
 refusal_place (refusal.Sample fault) = None
+refusal_place (refusal.TooFewLayers height) = None
 
 abbrev pub refusal_number : Refusal → Option ℕ
 refusal_number (refusal.Graph fault) = graph.fault_number fault
@@ -43,6 +45,7 @@ refusal_number (refusal.Plan fault) = plan.fault_number fault
 refusal_number (refusal.Report fault) = report.fault_number fault
 refusal_number (refusal.Shot fault) = Some fault.shot
 refusal_number (refusal.Sample fault) = None
+refusal_number (refusal.TooFewLayers height) = Some height
 
 -- a word, if there is one
 abbrev pub if_any : Option (List ℕ) → List (List ℕ)

@@ -41,6 +41,7 @@ IsGraphRefusal named name (refusal.Plan fault) = ⊥
 IsGraphRefusal named name (refusal.Report fault) = ⊥
 IsGraphRefusal named name (refusal.Shot fault) = ⊥
 IsGraphRefusal named name (refusal.Sample fault) = ⊥
+IsGraphRefusal named name (refusal.TooFewLayers height) = ⊥
 
 -- the text of the file of the name is no plan of the graph, and the refusal is its fault
 abbrev pub IsPlanRefusal : DecodingGraph → Named → List ℕ → Refusal → Type 0
@@ -49,6 +50,7 @@ IsPlanRefusal g named name (refusal.Plan fault) = Holds named name (IsNoPlan g f
 IsPlanRefusal g named name (refusal.Report fault) = ⊥
 IsPlanRefusal g named name (refusal.Shot fault) = ⊥
 IsPlanRefusal g named name (refusal.Sample fault) = ⊥
+IsPlanRefusal g named name (refusal.TooFewLayers height) = ⊥
 
 -- the text of the file of the name is no report, and the refusal is its fault
 abbrev pub IsReportRefusal : Named → List ℕ → Refusal → Type 0
@@ -57,6 +59,7 @@ IsReportRefusal named name (refusal.Graph fault) = ⊥
 IsReportRefusal named name (refusal.Plan fault) = ⊥
 IsReportRefusal named name (refusal.Shot fault) = ⊥
 IsReportRefusal named name (refusal.Sample fault) = ⊥
+IsReportRefusal named name (refusal.TooFewLayers height) = ⊥
 
 -- the input was read to its end
 abbrev pub IsReadToItsEnd : Cause → Type 0

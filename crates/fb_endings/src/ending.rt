@@ -23,6 +23,8 @@ pub enum Refusal {
     Shot(ShotFault),
     /// There is no such lattice to sample, or no such plan of it. The fault is never `NoMemory`.
     Sample(GenFault),
+    /// There is no plan of the graph by its layers: this is how many there are, too few for its units.
+    TooFewLayers(u64),
 }
 
 /// Why a run ended.

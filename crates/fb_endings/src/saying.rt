@@ -95,6 +95,7 @@ impl Refusal {
             Refusal::Report(fault) => fault.name(),
             Refusal::Shot(fault) => fault.kind.name(),
             Refusal::Sample(fault) => fault.name(),
+            Refusal::TooFewLayers(_) => "TooFewLayers",
         }
     }
 
@@ -107,7 +108,7 @@ impl Refusal {
             Refusal::Plan(fault) => fault.place(),
             Refusal::Report(fault) => fault.place(),
             Refusal::Shot(_) => Some("shot"),
-            Refusal::Sample(_) => None,
+            Refusal::Sample(_) | Refusal::TooFewLayers(_) => None,
         }
     }
 
@@ -121,6 +122,7 @@ impl Refusal {
             Refusal::Report(fault) => fault.number(),
             Refusal::Shot(fault) => Some(u64::from(fault.shot)),
             Refusal::Sample(_) => None,
+            Refusal::TooFewLayers(height) => Some(height),
         }
     }
 }

@@ -24,7 +24,7 @@ distances = record { low = 2; high = 255 }
 abbrev pub rounds : Range
 rounds = record { low = 1; high = 1048576 }
 
--- the units of its plan: 1 to 4,096
+-- the units of a plan: 1 to 4,096
 abbrev pub units : Range
 units = record { low = 1; high = 4096 }
 

@@ -34,11 +34,17 @@ pub record Sampling : Type 0 where
   pub workers : ℕ
   pub window : ℕ
 
+-- what `plan` asks for: the name of the graph, and the units of the plan that is made of it
+pub record Planning : Type 0 where
+  pub graph : List ℕ
+  pub units : ℕ
+
 -- what a command line asks for
 pub data Request : Type 0 where
   decode : Decoding → Request
   check : Checking → Request
   sample : Sampling → Request
+  plan : Planning → Request
 
 -- the numbers are in the ranges of their options
 pub record IsSampleInRanges (s : Sampling) : Type 0 where
@@ -55,3 +61,4 @@ abbrev pub IsInRanges : Request → Type 0
 IsInRanges (decode d) = IsWithin ranges.workers d.workers × IsWithin ranges.windows d.window
 IsInRanges (check c) = ⊤
 IsInRanges (sample s) = IsSampleInRanges s
+IsInRanges (plan p) = IsWithin ranges.units p.units

@@ -10,5 +10,5 @@ pub mod usage;
 
 pub use format::Format;
 pub use limits::{MOST_AT_ONCE, MOST_WORKERS};
-pub use request::{Checking, Decoding, Request, Sampling};
+pub use request::{Checking, Decoding, Planning, Request, Sampling};
 pub use usage::UsageKind;

@@ -8,6 +8,7 @@ pub enum Request<'a> {
     Decode(Decoding<'a>),
     Check(Checking<'a>),
     Sample(Sampling),
+    Plan(Planning<'a>),
 }
 
 /// Shots to decode: the names of the graph, of the plan if one is given, and of the shots, `-` for standard input; how
@@ -51,4 +52,13 @@ pub struct Sampling {
     pub workers: u32,
     /// How many shots are solved at once, 1 to 64.
     pub window: u32,
+}
+
+/// A plan to make of a graph.
+#[derive(Clone, Copy)]
+pub struct Planning<'a> {
+    /// The name of the graph, `-` for standard input.
+    pub graph: &'a str,
+    /// The units of the plan, 1 to 4,096.
+    pub units: u32,
 }

@@ -11,7 +11,7 @@ use Rattle.fb_inputs.specs.Judging.{Named}
 use Rattle.fb_run.specs.RunEndings.{EndsRight, RequestEnds, HasReadOut, ReadsOut}
 use Rattle.fb_run.specs.InternalCauses.{cause_of_words}
 use Rattle.fb_words.specs.Faults.{IsFaultOf, usage_of}
-use Rattle.fb_request.specs.Requests.{Decoding, Request, check, decode, sample}
+use Rattle.fb_request.specs.Requests.{Decoding, Request, check, decode, plan, sample}
 use Rattle.fb_endings.specs.declared.ending.Cause.{Cause}
 use Rattle.fb_endings.specs.declared.ending.Cause.TheVariants.{Bad, Done, NoMemory, Odd, ReadFault, Refused, Usage, WriteFault}
 use Rattle.fb_request.specs.declared.usage.UsageKind.{UsageKind}
@@ -54,6 +54,8 @@ never_usage (check checking) before after kind (inr with_graph) = elim with_grap
   ]
 ]
 never_usage (sample sampling) before after kind ends = ends.2
+never_usage (plan planning) before after kind (inl none) = none
+never_usage (plan planning) before after kind (inr with_graph) = with_graph.ends
 
 pub request_not_usage : (request : Request) (before after : Moment) (cause : Cause) (kind : UsageKind) → RequestEnds request before after cause → cause ≢ Usage kind
 request_not_usage request before after cause kind ends e = never_usage request before after kind (subst (RequestEnds request before after) e ends)
@@ -80,6 +82,7 @@ pub never_out : (read : Result Request UsageKind) (f : WordsFault) (named : Name
 never_out (Ok (decode decoding)) f named left = λ reads. absurd (not_to_end f reads)
 never_out (Ok (check checking)) f named left = λ reads. absurd (not_to_end f reads)
 never_out (Ok (sample sampling)) f named left = tt
+never_out (Ok (plan planning)) f named left = tt
 never_out (Err kind) f named left = tt
 
 -- a command line that is refused does nothing
@@ -94,6 +97,7 @@ ends_refused read fault.TwoInputs m e = ends_invalid read usage.TwoInputs m e
 ends_refused (Ok (decode decoding)) fault.NoMemory m e = inl (asks_none m.asked m.asked (decoding.graph ∷ []) refl, refl, Appends-nil m.written)
 ends_refused (Ok (check checking)) fault.NoMemory m e = inl (asks_none m.asked m.asked (checking.graph ∷ []) refl, refl, Appends-nil m.written)
 ends_refused (Ok (sample sampling)) fault.NoMemory m e = (asks_same m.asked m.asked refl, refl, Appends-nil m.written)
+ends_refused (Ok (plan planning)) fault.NoMemory m e = inl (asks_none m.asked m.asked (planning.graph ∷ []) refl, refl, Appends-nil m.written)
 ends_refused (Err kind) fault.NoMemory m e = (inr refl, asks_same m.asked m.asked refl, refl, Appends-nil m.written)
 
 -- a sink fails only in a run that says so

@@ -36,6 +36,7 @@ IsSampleRefusal s (refusal.Graph fault) = ⊥
 IsSampleRefusal s (refusal.Plan fault) = ⊥
 IsSampleRefusal s (refusal.Report fault) = ⊥
 IsSampleRefusal s (refusal.Shot fault) = ⊥
+IsSampleRefusal s (refusal.TooFewLayers height) = ⊥
 
 -- How a sample ends: its whole text is written, or a prefix of it and then a fault comes; or nothing is written.
 abbrev pub SampleEnds : Sampling → (old new : Option (List ℕ)) → Cause → Type 0

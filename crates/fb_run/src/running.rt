@@ -17,6 +17,7 @@ use crate::sampling::sample;
 use fb_check::check;
 use fb_crew::Gate;
 use fb_endings::{Cause, Ended, say};
+use fb_planning::plan;
 use fb_ports::{Files, Sink, put_all};
 use fb_request::{Request, UsageKind};
 use fb_words::{WordsFault, read_words};
@@ -115,6 +116,7 @@ fn run_request<F: Files, O: Sink, G: Gate, R: Threads + Sync>(
         Request::Decode(decoding) => decode(rt, alloc, decoding, files, out, gate),
         Request::Check(checking) => check(alloc, checking, files, out),
         Request::Sample(sampling) => sample(rt, alloc, sampling, out, gate),
+        Request::Plan(planning) => plan(alloc, planning, files, out),
     }
 }
 

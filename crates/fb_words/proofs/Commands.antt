@@ -21,7 +21,7 @@ use Rattle.clap.proofs.OnLiterals.{clap_on_literals}
 use Rattle.clap.proofs.SimpleLemmas.{is_nil}
 use Rattle.clap.proofs.WalkLemmas.{first_value-rows}
 use Rattle.fb_words.proofs.PassedRows.{RowsPass, level_rows_pass, none_first, none_then, only_of_single, required_word, word_accepted}
-use Rattle.fb_words.specs.Command.{decode_app, flag_rule, fusion_app, number_rule, plain_app, required_number_rule, sample_app}
+use Rattle.fb_words.specs.Command.{decode_app, flag_rule, fusion_app, number_rule, plain_app, plan_app, required_number_rule, sample_app}
 use Rattle.fb_words.specs.InternalOptions.{HasNumber, HasNumberIfGiven, HasOptions}
 use Rattle.fb_request.specs.Ranges.{Range}
 use Rattle.fb_request.specs.Ranges as ranges
@@ -302,6 +302,7 @@ decode_has_options words none =
         trace = flag_word s (codes "trace") (rows_at s words).1 refl passed.0;
       },
       λ e. absurd (false≢true e),
+      λ e. absurd (false≢true e),
     )
 
 sample_has_options : HasItsOptions (leaf_of sample_app)
@@ -320,6 +321,17 @@ sample_has_options words none =
         workers = number_if_given s (codes "workers") ranges.workers rows refl passed.0;
         window = number_if_given s (codes "window") ranges.windows rows refl passed.0;
       },
+      λ e. absurd (false≢true e),
+    )
+
+plan_has_options : HasItsOptions (leaf_of plan_app)
+plan_has_options words none =
+    let s = leaf_of plan_app in
+    let rows = (rows_at s words).1 in
+    let passed = level_rows_pass s [] words false [] refl (only_of_single s.rules refl) none in (
+      λ e. absurd (false≢true e),
+      λ e. absurd (false≢true e),
+      λ auto. record { units = number_given s (codes "units") ranges.units rows refl refl passed.1 passed.0 },
     )
 
 fusion_have_options : HaveTheirOptions (built fusion_app).subs
@@ -327,10 +339,13 @@ unfolding fusion_app
 fusion_have_options = (
   decode_has_options,
   (
-    (λ words none. (λ e. absurd (false≢true e), λ e. absurd (false≢true e))),
+    (λ words none. (λ e. absurd (false≢true e), λ e. absurd (false≢true e), λ e. absurd (false≢true e))),
     (
       sample_has_options,
-      ((λ words none. (λ e. absurd (false≢true e), λ e. absurd (false≢true e))), tt),
+      (
+        plan_has_options,
+        ((λ words none. (λ e. absurd (false≢true e), λ e. absurd (false≢true e), λ e. absurd (false≢true e))), tt),
+      ),
     ),
   ),
 )

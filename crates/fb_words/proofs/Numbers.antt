@@ -10,11 +10,11 @@ use Rattle.clap.proofs.WalkLemmas.{one_text-rows}
 use Rattle.fb_request.specs.declared.format.Format.{Format}
 use Rattle.fb_request.specs.declared.usage.UsageKind.{UsageKind}
 use Rattle.fb_request.specs.declared.usage.UsageKind.TheVariants as usage
-use Rattle.fb_words.specs.InternalOptions.{HasDecodeOptions, HasOptions, HasSampleOptions, HasNumber, HasNumberIfGiven, WritesBelow, WritesWithin}
+use Rattle.fb_words.specs.InternalOptions.{HasDecodeOptions, HasOptions, HasPlanOptions, HasSampleOptions, HasNumber, HasNumberIfGiven, WritesBelow, WritesWithin}
 use Rattle.fb_request.specs.Ranges.{IsWithin, Range}
 use Rattle.fb_request.specs.Ranges as ranges
-use Rattle.fb_request.specs.Requests.{Request, IsInRanges, IsSampleInRanges, check, decode, sample}
-use Rattle.fb_words.specs.Words.{accepted_format, checking_of, command_request, decoding_of, request_with, format_of, given_number, number_in, number_of, option_of, sampling_of, trace_of, window_of, workers_of}
+use Rattle.fb_request.specs.Requests.{Request, IsInRanges, IsSampleInRanges, check, decode, plan, sample}
+use Rattle.fb_words.specs.Words.{accepted_format, checking_of, command_request, decoding_of, request_with, format_of, given_number, number_in, number_of, option_of, planning_of, sampling_of, trace_of, window_of, workers_of}
 
 -- ---- what a getter returns
 
@@ -135,14 +135,18 @@ sampling_in_ranges options has = record {
 pub request_in_ranges : (command : Option (Text × List Row)) (e : Request) → HasOptions command → command_request command ≡ Ok e → IsInRanges e
 request_in_ranges None e has same = cc
 request_in_ranges (Some command) e has same =
-    go (bytes_eq command.0 (codes "decode")) (bytes_eq command.0 (codes "check")) (bytes_eq command.0 (codes "sample")) has same
+    go (bytes_eq command.0 (codes "decode")) (bytes_eq command.0 (codes "check")) (bytes_eq command.0 (codes "sample"))
+    (bytes_eq command.0 (codes "plan")) has same
   where
-    go : (decodes checks samples : Bool)
+    go : (decodes checks samples plans : Bool)
         → (decodes ≡ true → HasDecodeOptions command.1) × (samples ≡ true → HasSampleOptions command.1)
+        × (plans ≡ true → HasPlanOptions command.1)
         → cond decodes (decoding_of command.1) (cond checks (checking_of command.1)
-        (cond samples (Ok (sample (sampling_of command.1))) (Err usage.Parse))) ≡ Ok e
+        (cond samples (Ok (sample (sampling_of command.1))) (cond plans (Ok (plan (planning_of command.1))) (Err usage.Parse)))) ≡ Ok e
         → IsInRanges e
-    go true checks samples has same = decoding_in_ranges command.1 e (has.0 refl) same
-    go false true samples has same = checking_in_ranges command.1 e same
-    go false false true has same = in_result IsInRanges _ e same (sampling_in_ranges command.1 (has.1 refl))
-    go false false false has same = cc
+    go true checks samples plans has same = decoding_in_ranges command.1 e (has.0 refl) same
+    go false true samples plans has same = checking_in_ranges command.1 e same
+    go false false true plans has same = in_result IsInRanges _ e same (sampling_in_ranges command.1 (has.1 refl))
+    go false false false true has same =
+        in_result IsInRanges _ e same (given_within (codes "units") ranges.units command.1 (has.2 refl).units)
+    go false false false false has same = cc

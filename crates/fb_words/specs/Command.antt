@@ -59,9 +59,14 @@ with_draws app =
 abbrev pub sample_app : App
 sample_app = with_sizes (with_draws (with_lattice (new_app (codes "sample"))))
 
+abbrev pub plan_app : App
+plan_app = with_rule (with_rule (new_app (codes "plan")) (option_rule (codes "graph")))
+    (required_number_rule (codes "units") units)
+
 abbrev pub plain_app : App
-plain_app = with_subcommand (with_subcommand (with_subcommand (new_app (codes "fusion")) decode_app.top) check_app.top)
-    sample_app.top
+plain_app =
+    with_subcommand (with_subcommand (with_subcommand (with_subcommand (new_app (codes "fusion"))
+    decode_app.top) check_app.top) sample_app.top) plan_app.top
 
 -- the whole command line: one command, and its options
 unfoldable pub fusion_app : App

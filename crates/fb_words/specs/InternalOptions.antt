@@ -39,8 +39,13 @@ pub record HasSampleOptions (options : List Row) : Type 0 where
   pub workers : HasNumberIfGiven (codes "workers") ranges.workers options
   pub window : HasNumberIfGiven (codes "window") ranges.windows options
 
+-- the options of `plan`
+pub record HasPlanOptions (options : List Row) : Type 0 where
+  pub units : HasNumber (codes "units") ranges.units options
+
 -- the options of a command
 abbrev pub HasOptions : Option (Text × List Row) → Type 0
 HasOptions None = ⊤
 HasOptions (Some command) = (bytes_eq command.0 (codes "decode") ≡ true → HasDecodeOptions command.1)
     × (bytes_eq command.0 (codes "sample") ≡ true → HasSampleOptions command.1)
+    × (bytes_eq command.0 (codes "plan") ≡ true → HasPlanOptions command.1)

@@ -5,7 +5,7 @@ use Rattle.std.specs.Str.Parse.{digits_value, without_leading_plus}
 use Rattle.clap.specs.Kinds.{Kinds}
 use Rattle.clap.specs.Words.{Row, Text, fault_of, first_of, one_of, subcommand_of}
 use Rattle.fb_words.specs.Command.{fusion_app}
-use Rattle.fb_request.specs.Requests.{Request, Sampling, check, decode, sample}
+use Rattle.fb_request.specs.Requests.{Planning, Request, Sampling, check, decode, plan, sample}
 use Rattle.fb_request.specs.declared.format.Format.{Format}
 use Rattle.fb_request.specs.declared.format.Format.TheVariants.{Text01, B8, Dets, Hits, R8, Json}
 use Rattle.fb_request.specs.declared.usage.UsageKind.{UsageKind}
@@ -104,9 +104,14 @@ sampling_of options = record {
   window = window_of options;
 }
 
+-- the request of `plan` with these options
+abbrev pub planning_of : List Row → Planning
+planning_of options = record { graph = option_of (codes "graph") options; units = given_number (codes "units") options }
+
 abbrev pub is_command_name : Text → Bool
 is_command_name name =
-    bytes_eq name (codes "decode") || (bytes_eq name (codes "check") || bytes_eq name (codes "sample"))
+    bytes_eq name (codes "decode") || (bytes_eq name (codes "check")
+    || (bytes_eq name (codes "sample") || bytes_eq name (codes "plan")))
 
 -- a command was named
 abbrev pub is_command : Option (Text × List Row) → Bool
@@ -119,7 +124,8 @@ command_request None = Err usage.Parse
 command_request (Some command) =
     if bytes_eq command.0 (codes "decode") then decoding_of command.1
     else (if bytes_eq command.0 (codes "check") then checking_of command.1
-    else (if bytes_eq command.0 (codes "sample") then Ok (sample (sampling_of command.1)) else Err usage.Parse))
+    else (if bytes_eq command.0 (codes "sample") then Ok (sample (sampling_of command.1))
+    else (if bytes_eq command.0 (codes "plan") then Ok (plan (planning_of command.1)) else Err usage.Parse)))
 
 -- the request of a command, if clap finds no fault in the words
 abbrev pub request_unless : Kinds → Option (Text × List Row) → Result Request UsageKind

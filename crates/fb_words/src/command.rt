@@ -2,7 +2,7 @@
 
 ghost use Rattle.std.specs.Prelude.{◌≡◌, IfOk, Ok, codes};
 ghost use Rattle.clap.specs.Words.{App, app_of, new_app, with_subcommand};
-ghost use Rattle.fb_words.specs.Command.{check_app, decode_app, flag_rule, free_rule, fusion_app, number_rule, option_rule, required_number_rule, sample_app};
+ghost use Rattle.fb_words.specs.Command.{check_app, decode_app, flag_rule, free_rule, fusion_app, number_rule, option_rule, plan_app, required_number_rule, sample_app};
 ghost use Rattle.fb_words.specs.InternalCommands.{AreOptions, IsCommand, IsOption, bare_app};
 ghost use Rattle.fb_request.specs.Ranges.{Range};
 ghost use Rattle.fb_request.specs.Ranges as ranges;
@@ -31,7 +31,7 @@ const MOST_DISTANCE: u64 = 255;
 /// The most rounds of a lattice.
 const MOST_ROUNDS: u64 = 1 << 20;
 
-/// The most units of a lattice's plan.
+/// The most units of a plan.
 const MOST_UNITS: u64 = fb_plan::plan::MOST_UNITS as u64;
 
 /// The rate at which an edge is hit by every draw.
@@ -46,7 +46,8 @@ pub fn fusion<'a>(alloc: Global) -> Result<Command<'a>, AllocError>
 {
     let program = with_command(program(alloc), decode(alloc));
     let program = with_command(program, check(alloc));
-    with_command(program, sample(alloc))
+    let program = with_command(program, sample(alloc));
+    with_command(program, planning(alloc))
 }
 
 /// The program with one command more, if there was enough memory to make both.
@@ -121,6 +122,20 @@ fn sample<'a>(alloc: Global) -> Result<Command<'a>, AllocError>
     command.args(options)
 }
 
+/// The command `plan`.
+fn planning<'a>(alloc: Global) -> Result<Command<'a>, AllocError>
+    ensures { IfOk result (IsCommand plan_app) }
+{
+    let options = planning_options(alloc)?;
+    let command = command(
+        alloc,
+        "plan",
+        "Write a plan of a graph, by which `decode` solves it in parts",
+        help::PLAN,
+    );
+    command.args(options)
+}
+
 /// The options of `decode`.
 fn decode_options<'a>(alloc: Global) -> Result<Vec<Arg<'a>>, AllocError>
     ensures { IfOk result (λ options. AreOptions decode_app.top.rules options.items) }
@@ -159,6 +174,14 @@ fn sample_options<'a>(alloc: Global) -> Result<Vec<Arg<'a>>, AllocError>
         workers(alloc),
         window(alloc),
     ];
+    list_of(alloc, options)
+}
+
+/// The options of `plan`.
+fn planning_options<'a>(alloc: Global) -> Result<Vec<Arg<'a>>, AllocError>
+    ensures { IfOk result (λ options. AreOptions plan_app.top.rules options.items) }
+{
+    let options = [graph(alloc), graph_units(alloc)];
     list_of(alloc, options)
 }
 
@@ -316,6 +339,20 @@ fn units<'a>(alloc: Global) -> Arg<'a>
         "U",
         1..=MOST_UNITS,
         "Into how many units the plan splits the rounds, 1 to 4096",
+    )
+    .required(true)
+}
+
+/// The option for the units of a graph's plan.
+fn graph_units<'a>(alloc: Global) -> Arg<'a>
+    ensures { IsOption (required_number_rule (codes "units") ranges.units) result }
+{
+    number(
+        alloc,
+        "units",
+        "K",
+        1..=MOST_UNITS,
+        "Into how many units the plan splits the graph, 1 to 4096",
     )
     .required(true)
 }

@@ -54,6 +54,25 @@ Exit status:
   5  memory ran out
   6  the command line is invalid, or asks for help";
 
+/// Of `plan`.
+pub(crate) const PLAN: &str = "\
+NAME is a file, or `-` for standard input.
+
+The plan goes to standard output, in JSON: `decode` takes it as the plan of this graph. It cuts the graph by layers: the
+layer of a vertex is how many edges lead to it from the least vertex of its component. K units need at least 2 * K - 1
+layers, if K is above 1.
+
+Example:
+  fusion plan --graph examples/line/graph.json --units 2
+
+Exit status:
+  0  the plan is written
+  2  the graph is refused, or has too few layers: standard error has the rule that it breaks, and the place
+  3  a file can't be opened or read
+  4  standard output can't be written
+  5  memory ran out
+  6  the command line is invalid, or asks for help";
+
 /// Of `sample`.
 pub(crate) const SAMPLE: &str = "\
 No file is read. The lattice has T * D * (D + 1) vertices, at most 1048576, and U units need at least 2 * U - 1 rounds.

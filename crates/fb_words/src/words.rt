@@ -4,17 +4,17 @@ ghost use Rattle.std.specs.Prelude.{◌≡◌, ◌≢◌, ◌<◌, ◌^◌, true
 ghost use Rattle.clap.specs.Words.{found_of, kind_of, one_of, rows_of, subcommand_rows_of, takes};
 ghost use Rattle.fb_words.specs.Command.{fusion_app};
 ghost use Rattle.fb_request.specs.declared.usage.UsageKind.{UsageKind};
-ghost use Rattle.fb_words.specs.InternalOptions.{HasDecodeOptions, HasNumberIfGiven, HasOptions, HasSampleOptions, WritesBelow};
+ghost use Rattle.fb_words.specs.InternalOptions.{HasDecodeOptions, HasNumberIfGiven, HasOptions, HasPlanOptions, HasSampleOptions, WritesBelow};
 ghost use Rattle.fb_request.specs.Ranges as ranges;
 ghost use Rattle.fb_words.specs.Faults.{IsFaultOf, usage_of};
-ghost use Rattle.fb_request.specs.PlainRequests.{plain_request, plain_sampling};
+ghost use Rattle.fb_request.specs.PlainRequests.{plain_planning, plain_request, plain_sampling};
 ghost use Rattle.fb_request.specs.Requests.{IsInRanges};
-ghost use Rattle.fb_words.specs.Words.{accepted_format, checking_of, command_request, decoding_of, request_of, format_of, has_two_inputs, is_command, number_of, option_of, sampling_of, trace_of, window_of, workers_of};
+ghost use Rattle.fb_words.specs.Words.{accepted_format, checking_of, command_request, decoding_of, request_of, format_of, has_two_inputs, is_command, number_of, option_of, planning_of, sampling_of, trace_of, window_of, workers_of};
 
 use crate::command::fusion;
 use clap::ArgMatches;
 use clap::error::{Error, ErrorKind};
-use fb_request::{Checking, Decoding, Format, Request, Sampling};
+use fb_request::{Checking, Decoding, Format, Planning, Request, Sampling};
 use std::alloc::Global;
 
 /// Why a command line is refused.
@@ -77,6 +77,7 @@ fn read_request<'a>(matches: &ArgMatches<'a>) -> Result<Request<'a>, WordsFault>
         Some(("decode", options)) => read_decoding(options),
         Some(("check", options)) => read_checking(options),
         Some(("sample", options)) => Ok(Request::Sample(read_sampling(options))),
+        Some(("plan", options)) => Ok(Request::Plan(read_planning(options))),
         _ => unreachable!(),
     }
 }
@@ -140,6 +141,17 @@ fn read_sampling(options: &ArgMatches<'_>) -> Sampling
         shots: number(options, "shots").unwrap_or(0),
         workers: workers(options),
         window: window(options),
+    }
+}
+
+/// What the command `plan` asks for with these options.
+fn read_planning<'a>(options: &ArgMatches<'a>) -> Planning<'a>
+    requires { HasPlanOptions (rows_of (found_of options.now)) }
+    ensures { plain_planning result ≡ planning_of (rows_of (found_of options.now)) }
+{
+    Planning {
+        graph: option(options, "graph"),
+        units: number(options, "units").unwrap_or(0),
     }
 }
 
