@@ -41,8 +41,8 @@ impl<'a> Piece for Listed<'a> {
     }
 }
 
-/// Hands that list nodes. They have no memory for one of the nodes, if it is named, and count the fusions that are asked
-/// for. A worker's tools count its items.
+/// Hands that list nodes. They have no memory for one of the nodes, if it is named, and count the fusions that are
+/// asked for. A worker's tools count its items.
 #[derive(Drop)]
 pub struct Lister<'a> {
     job: &'a Job<'a>,
@@ -315,8 +315,8 @@ fn lists_the_tree(worked: &Worked<Listed<'_>, u32>) -> Result<(), Stopped> {
     Stopped::unless(items == 3, "how many items the tools count")
 }
 
-/// By two workers, each of which makes a unit while the other one does, the root's nodes are made in the order of the tree,
-/// each once, and the history has who gave which.
+/// By two workers, each of which makes a unit while the other one does, the root's nodes are made in the order of the
+/// tree, each once, and the history has who gave which.
 pub fn meet_at_the_gate<R: Threads + Sync>(rt: &R, alloc: Global) -> Result<(), Stopped> {
     let Pair { graph, plan, shots } = Pair::new(alloc)?;
     let job = Job::new(&graph, &plan, shots);
@@ -361,7 +361,8 @@ pub fn ask_for_no_fusion<R: Threads + Sync>(rt: &R, alloc: Global) -> Result<(),
     Stopped::unless(hands.fusions.load(Ordering::SeqCst) == 0, "how many fusions are asked for")
 }
 
-/// Whether the entry at this place is that its item was taken, or then given by the same worker: items go by slot, then node.
+/// Whether the entry at this place is that its item was taken, or then given by the same worker: items go by slot, then
+/// node.
 fn is_in_place(history: &[Entry], place: usize) -> bool {
     let (entry, first) = (&history[place], &history[place - place % 2]);
     let kind = if place % 2 == 0 { Kind::Took } else { Kind::Gave };
@@ -369,7 +370,8 @@ fn is_in_place(history: &[Entry], place: usize) -> bool {
     entry.kind == kind && (entry.slot as usize, entry.node as usize) == item && entry.worker == first.worker
 }
 
-/// All items of many slots by so many workers: each root's nodes, each worker's tools, and the history by slot, then node.
+/// All items of many slots by so many workers: each root's nodes, each worker's tools, and the history by slot, then
+/// node.
 fn list_many<R: Threads + Sync>(rt: &R, alloc: Global, workers: u32) -> Result<(), Stopped> {
     let Pair { graph, plan, shots } = Pair::many(alloc)?;
     let job = Job::new(&graph, &plan, shots);
@@ -381,7 +383,8 @@ fn list_many<R: Threads + Sync>(rt: &R, alloc: Global, workers: u32) -> Result<(
     }
     Stopped::unless(worked.tools.len() == workers as usize && items == 3 * SLOTS, "the items of many slots")?;
     let history = worked.history.as_slice();
-    Stopped::unless(history.len() == 6 * SLOTS as usize && worked.made == 6 * u64::from(SLOTS), "the events of many slots")?;
+    let events = 6 * u64::from(SLOTS);
+    Stopped::unless(history.len() as u64 == events && worked.made == events, "the events of many slots")?;
     for place in 0..history.len() {
         Stopped::unless(is_in_place(history, place) && history[place].worker < workers, "the order of a history")?;
     }

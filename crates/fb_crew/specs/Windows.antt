@@ -29,9 +29,9 @@ abbrev pub best_places : ℕ → List Row → List ℕ
 best_places k [] = []
 best_places k (r ∷ rs) = if is_best r then k ∷ best_places (k + 1) rs else best_places (k + 1) rs
 
--- A history of how these rows were made by a plan: of each shot that has a correction each node of the plan was taken and
--- then given, as the board's machine allows it; of other shots there is no entry. It is listed by shot, then node, and an
--- item's Took before its Gave. Slots are places among the rows.
+-- A history of how these rows were made by a plan: of each shot that has a correction each node of the plan was taken
+-- and then given, as the board's machine allows it; of other shots there is no entry. It is listed by shot, then node,
+-- and an item's Took before its Gave. Slots are places among the rows.
 pub record IsHistoryOf (t : PlanTree) (workers : ℕ) (rows : List Row) (history : List Entry) : Type 0 where
   pub complete : IsCompleteOn (best_places 0 rows) (kids_in t.units t.joins) (node_count t) (length rows * node_count t) history
   pub within : All (λ e. is_in (best_places 0 rows) e.slot ≡ true) history

@@ -148,10 +148,10 @@ fn join_member<P: Piece, T: Drop, N: Board>(
     Ok(members)
 }
 
-/// Lets each member do items until no unit is left. The first one is on the calling thread, and each other one on a thread of
-/// its own. The calling thread starts them all: a system tends to put a new thread on the processor of the one that starts
-/// it, which a worker keeps busy. A worker for which no thread can be made begins once the calling thread's own has ended.
-/// The calls are as deep as there are members, at most `MOST_WORKERS`.
+/// Lets each member do items until no unit is left. The first one is on the calling thread, and each other one on a
+/// thread of its own. The calling thread starts them all: a system tends to put a new thread on the processor of the
+/// one that starts it, which a worker keeps busy. A worker for which no thread can be made begins once the calling
+/// thread's own has ended. The calls are as deep as there are members, at most `MOST_WORKERS`.
 fn work_each<
     P: Piece + Send + Sync,
     T: Send + Drop,
@@ -195,6 +195,7 @@ fn worker_count(job: &Job<'_>, tools: u32) -> u32
     requires { 1 ≤ tools }
     ensures some { 1 ≤ result }
     ensures few { result ≤ tools }
+    ensures busy { result ≤ max 1 (length job.now.shots * job.now.plan.units) }
 {
     let units = job
         .shots()
@@ -203,7 +204,8 @@ fn worker_count(job: &Job<'_>, tools: u32) -> u32
     units.clamp(1, tools as usize) as u32
 }
 
-/// Does all items with this number of workers beside the caller, in a run that N names. Tools that are left over stay unused.
+/// Does all items with this number of workers beside the caller, in a run that N names. Tools that are left over stay
+/// unused.
 fn run_all<
     P: Piece + Send + Sync,
     T: Send + Drop,
@@ -243,8 +245,8 @@ fn run_all<
 }
 
 /// Does all items of the job by this number of workers, each on a thread of its own but one, which is on the calling
-/// thread. Nobody waits for another one. A job of fewer units in all its slots has fewer workers. A worker that runs out of
-/// memory leaves its item and ends; the others go on until no unit is left.
+/// thread. Nobody waits for another one. A job of fewer units in all its slots has fewer workers. A worker that runs
+/// out of memory leaves its item and ends; the others go on until no unit is left.
 pub fn work_all<P: Piece + Send + Sync, T: Send + Drop, H: Hands<P, T>, G: Gate, R: Threads + Sync>(
     rt: &R,
     alloc: Global,

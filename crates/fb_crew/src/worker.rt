@@ -124,8 +124,8 @@ impl<P: Piece, N: Board> Worker<P, N> {
         entries.push_reserved(left);
     }
 
-    /// Solves the ticket's unit and posts it, and goes on with each fusion that a post gives. If memory runs out, the item
-    /// that the worker holds is left.
+    /// Solves the ticket's unit and posts it, and goes on with each fusion that a post gives. If memory runs out, the
+    /// item that the worker holds is left.
     fn climb<T, H: Hands<P, T>, G: Gate>(
         &mut self,
         board: &SlotBook<P, N>,

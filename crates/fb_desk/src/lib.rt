@@ -1,6 +1,6 @@
-//! A board behind a lock: workers that take the items of a job from one book, each on a thread of its own, and wait at the
-//! lock while no item can be taken. The program's workers share a board without a lock (`fb_slots`); the tests alone call
-//! this one.
+//! A board behind a lock: workers that take the items of a job from one book, each on a thread of its own, and wait at
+//! the lock while no item can be taken. The program's workers share a board without a lock (`fb_slots`); the tests
+//! alone call this one.
 
 #![tactic(auto)]
 

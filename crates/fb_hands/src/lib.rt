@@ -1,5 +1,5 @@
-//! What the workers of a job have, whatever board they share: hands that solve its items, a gate before each post, and the
-//! job once it is finished.
+//! What the workers of a job have, whatever board they share: hands that solve its items, a gate before each post, and
+//! the job once it is finished.
 
 #![tactic(auto)]
 
