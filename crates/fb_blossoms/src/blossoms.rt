@@ -65,17 +65,11 @@ impl Blossoms {
         ensures { result ≡ [] }
     {
         let Blossoms {
-            mut nodes,
-            mut leaves,
-            made: _,
-        } = self;
-        nodes.clear();
-        leaves.clear();
-        Blossoms {
             nodes,
             leaves,
-            made: 0,
-        }
+            made: _,
+        } = self;
+        emptied(nodes, leaves)
     }
 
     /// Does nothing. Its clause states what every store keeps.
@@ -152,27 +146,43 @@ impl Blossoms {
         requires { AreLeavesApart left right }
         ensures { IfOk result (λ both. IsMerged left right both.0 links.now both.1.items) }
     {
+        let (both, pairs, _spare) = Blossoms::merged_with_spare(alloc, left, right, links)?;
+        Ok((both, pairs))
+    }
+
+    /// The same, and the right store without nodes, in its room.
+    pub fn merged_with_spare(
+        alloc: Global,
+        left: Blossoms,
+        right: Blossoms,
+        links: &[(LinkId, LinkId)],
+    ) -> Result<(Blossoms, Vec<(NodeId, NodeId)>, Blossoms), NoMemory>
+        requires { AreLeavesApart left right }
+        ensures merged { IfOk result (λ both. IsMerged left right both.0 links.now both.1.items) }
+        ensures spare { IfOk result (λ both. both.2 ≡ []) }
+    {
         let Blossoms {
             mut nodes,
             mut leaves,
             made: before,
         } = left;
         let Blossoms {
-            nodes: others,
-            leaves: _,
+            nodes: mut others,
+            leaves: other_leaves,
             made: more,
         } = right;
         let Some(made) = before.checked_add(more) else {
             return Err(NoMemory);
         };
-        let pairs = join_nodes(alloc, &mut nodes, others, before, links)?;
+        let pairs = join_nodes(alloc, &mut nodes, &mut others, before, links)?;
         list_all(&nodes, &mut leaves, &pairs)?;
         let both = Blossoms {
             nodes,
             leaves,
             made,
         };
-        Ok((both, pairs))
+        let spare = emptied(others, other_leaves);
+        Ok((both, pairs, spare))
     }
 
     /// The outer node that the node is, or lies in at any depth. Its time is that depth.
@@ -263,6 +273,19 @@ impl Blossoms {
             unreachable!()
         };
         way_down(alloc, &self.nodes, self.made, node, leaf)
+    }
+}
+
+/// The store without nodes, in the room of these pieces.
+fn emptied(mut nodes: Slab<Entry>, mut leaves: BTreeMap<u32, NodeId>) -> Blossoms
+    ensures { result ≡ [] }
+{
+    nodes.clear();
+    leaves.clear();
+    Blossoms {
+        nodes,
+        leaves,
+        made: 0,
     }
 }
 

@@ -52,15 +52,15 @@ fn take_one(
 pub fn take_all(
     alloc: Global,
     nodes: &mut Slab<Entry>,
-    mut right: Slab<Entry>,
+    right: &mut Slab<Entry>,
     more: u64,
 ) -> Result<Pairs, NoMemory>
-    requires { (a : ℕ) → made_in (get right a) + more < 2 ^ 64 }
-    ensures { IfOk result (λ names. AreAllTaken nodes.old right nodes.new more names.items) }
+    requires { (a : ℕ) → made_in (get right.old a) + more < 2 ^ 64 }
+    ensures { IfOk result (λ names. AreAllTaken nodes.old right.old nodes.new more names.items) }
 {
     let mut names = Vec::new(alloc);
     for key in 0..right.capacity() {
-        take_one(nodes, &mut right, key, more, &mut names)?;
+        take_one(nodes, right, key, more, &mut names)?;
     }
     Ok(names)
 }
@@ -135,12 +135,12 @@ pub fn list_all(
 pub fn join_nodes(
     alloc: Global,
     nodes: &mut Slab<Entry>,
-    right: Slab<Entry>,
+    right: &mut Slab<Entry>,
     more: u64,
     links: &[(LinkId, LinkId)],
 ) -> Result<Pairs, NoMemory>
-    requires { (a : ℕ) → made_in (get right a) + more < 2 ^ 64 }
-    ensures { IfOk result (λ names. AreJoined nodes.old.slots right.slots nodes.new.slots more links.now names.items) }
+    requires { (a : ℕ) → made_in (get right.old a) + more < 2 ^ 64 }
+    ensures { IfOk result (λ names. AreJoined nodes.old.slots right.old.slots nodes.new.slots more links.now names.items) }
 {
     let pairs = take_all(alloc, nodes, right, more)?;
     let names = names_of(alloc, &pairs)?;

@@ -110,8 +110,24 @@ impl Links {
     ) -> Result<(Links, Vec<(LinkId, LinkId)>), NoMemory>
         ensures { IfOk result (λ r. AreMerged left right r.1.items r.0) }
     {
+        let (links, pairs, _spare) = Links::merged_with_spare(alloc, left, right)?;
+        Ok((links, pairs))
+    }
+
+    /// The same, and the right table without links, in its room.
+    pub fn merged_with_spare(
+        alloc: Global,
+        left: Links,
+        right: Links,
+    ) -> Result<(Links, Vec<(LinkId, LinkId)>, Links), NoMemory>
+        ensures merged { IfOk result (λ r. AreMerged left right r.1.items r.0) }
+        ensures spare { IfOk result (λ r. r.2 ≡ []) }
+    {
         let mut links = left;
-        let mut table = right.links;
+        let Links {
+            links: mut table,
+            mut free,
+        } = right;
         let mut pairs = Vec::new(alloc);
         while let Some(entry) = table.pop() {
             if let Some(link) = entry {
@@ -122,7 +138,9 @@ impl Links {
         }
         // By rising old numbers, as `names_of` takes them without sorting.
         pairs.reverse();
-        Ok((links, pairs))
+        free.clear();
+        let spare = Links { links: table, free };
+        Ok((links, pairs, spare))
     }
 
     /// The first and the last vertex of the link's walk.

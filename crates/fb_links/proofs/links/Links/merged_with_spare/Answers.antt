@@ -1,7 +1,7 @@
 use Rattle.std.proofs.Common.{◌≡◌, [], ◌∷◌, ◌++◌, length, ap, sym, subst, ◌∙◌, arith}
 use Rattle.fb_links.specs.Merged.{AreMerged}
 use Rattle.fb_links.proofs.MovedLinks.{merging_begins, merging_ends, merging_after_none, merging_after_some, merged_reversed, taken_link}
-use Rattle.fb_links.proofs.links.Links.merged.Goals as goal
+use Rattle.fb_links.proofs.links.Links.merged_with_spare.Goals as goal
 
 pub loop-entry-init : goal.loop-entry-init
 loop-entry-init c =
@@ -17,8 +17,8 @@ pub put-requires : goal.put-requires
 put-requires c =
     taken_link _ _ _ _ _ _ _ _ c.loop-entry.invariant c.in-Some.ensures.items c.in-Some-entry.is
 
-pub returns : goal.returns
-returns c =
+pub returns-clause-merged : goal.returns-clause-merged
+returns-clause-merged c =
     subst (λ l. AreMerged c.args.left c.args.right l c.loop-entry.links) (sym c.reverse.ensures.items)
     (merged_reversed _ _ _ _
     (merging_ends _ _ _ _ _ (omega (arith, c.loop-entry.table.ok.0, c.in_default.ensures.cases.0)) c.loop-entry.invariant))
