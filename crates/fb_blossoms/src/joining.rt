@@ -48,7 +48,7 @@ fn take_one(
 }
 
 /// Takes all nodes into free slots, as if `more` others had been made before each. They keep the numbers of their
-/// parents, nodes and links.
+/// parents, nodes and links. Looks at no slot after the last node's, so room that isn't used costs nothing.
 pub fn take_all(
     alloc: Global,
     nodes: &mut Slab<Entry>,
@@ -60,6 +60,9 @@ pub fn take_all(
 {
     let mut names = Vec::new(alloc);
     for key in 0..right.capacity() {
+        if right.is_empty() {
+            break;
+        }
         take_one(nodes, right, key, more, &mut names)?;
     }
     Ok(names)
