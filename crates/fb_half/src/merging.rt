@@ -42,7 +42,7 @@ use fb_regions::{Regions, SpareRegions};
 use std::alloc::Global;
 
 /// The parts of two children as one, whose matching is still the left part's alone; with the old and new numbers of what was
-/// the right part's, that part's matching, and the room that is left of its dual state.
+/// the right part's, that part's matching, and the room that is left of its dual state and its tables.
 #[derive(Drop)]
 pub(crate) struct MergedParts<'a> {
     pub(crate) parts: Parts<'a>,
@@ -50,15 +50,18 @@ pub(crate) struct MergedParts<'a> {
     names: Vec<(NodeId, NodeId)>,
     pub(crate) others: Matching,
     pub(crate) room: SpareRegions,
+    pub(crate) emptied: EmptyTables,
 }
 
-/// The links and the blossoms of two parts as those of one, and the old and new numbers of what was the right part's.
+/// The links and the blossoms of two parts as those of one, the old and new numbers of what was the right part's, and the
+/// right part's tables, emptied.
 #[derive(Drop)]
 struct Tables {
     links: Links,
     blossoms: Blossoms,
     link_names: Vec<(LinkId, LinkId)>,
     names: Vec<(NodeId, NodeId)>,
+    emptied: EmptyTables,
 }
 
 /// The right part's links and blossoms beside the left one's.
@@ -73,13 +76,19 @@ fn merged_tables(
     ensures links { IfOk result (λ t. AreMerged left_links right_links t.link_names.items t.links) }
     ensures blossoms { IfOk result (λ t. merged.IsMerged left_blossoms right_blossoms t.blossoms t.link_names.items t.names.items) }
 {
-    let (links, link_names) = Links::merged(alloc, left_links, right_links)?;
-    let (blossoms, names) = Blossoms::merged(alloc, left_blossoms, right_blossoms, &link_names)?;
+    let (links, link_names, no_links) = Links::merged_with_spare(alloc, left_links, right_links)?;
+    let (blossoms, names, no_nodes) = Blossoms::merged_with_spare(
+        alloc,
+        left_blossoms,
+        right_blossoms,
+        &link_names,
+    )?;
     Ok(Tables {
         links,
         blossoms,
         link_names,
         names,
+        emptied: EmptyTables::on(alloc, no_links, no_nodes),
     })
 }
 
@@ -143,6 +152,7 @@ pub(crate) fn merged_parts<'a>(
         names: tables.names,
         others: theirs,
         room,
+        emptied: tables.emptied,
     })
 }
 
@@ -379,8 +389,8 @@ fn open_seam(alloc: Global, parts: &mut Parts<'_>) -> Result<(), NoMemory>
     add_leaves(alloc, regions, blossoms, matching, &own)
 }
 
-/// Takes over the right part's matches, and opens the seam. Returns the tables of a part without nodes.
-pub(crate) fn complete(alloc: Global, merged: &mut MergedParts<'_>) -> Result<EmptyTables, NoMemory>
+/// Takes over the right part's matches, and opens the seam.
+pub(crate) fn complete(alloc: Global, merged: &mut MergedParts<'_>) -> Result<(), NoMemory>
     requires scope { IsScopeOf merged.old.parts.regions.scope (part_of merged.old.parts) }
     requires distinct { AreDistinct (listed_names merged.old.parts.matching ++ matched_names (map (renamed_match (name_by merged.old.link_names.items) (name_by merged.old.names.items)) merged.old.others.matches)) }
     requires beside { AreBesideListed merged.old.parts.seams (joined_part merged.old) }
@@ -401,6 +411,5 @@ pub(crate) fn complete(alloc: Global, merged: &mut MergedParts<'_>) -> Result<Em
         link_names,
         names,
     )?;
-    open_seam(alloc, parts)?;
-    EmptyTables::new(alloc)
+    open_seam(alloc, parts)
 }

@@ -1,4 +1,4 @@
-ghost use Rattle.std.specs.Prelude.{◌≡◌, IfOk};
+ghost use Rattle.std.specs.Prelude.{◌≡◌, [], IfOk};
 ghost use Rattle.fb_half.specs.InternalBeginnings.{empty_part};
 ghost use Rattle.fb_half.specs.Values.{IsScopeOf, part_of};
 
@@ -46,8 +46,8 @@ impl Spare {
         }
     }
 
-    /// The room of a part whose links and blossoms another part has taken over: this for its dual state, other tables, and its
-    /// matching, emptied.
+    /// The room of a part whose nodes another part has taken over: its dual state's and its tables', and that of its matching,
+    /// emptied.
     pub(crate) fn beside(regions: SpareRegions, tables: EmptyTables, matching: Matching) -> Spare {
         Spare {
             regions,
@@ -85,6 +85,18 @@ impl EmptyTables {
             blossoms: Blossoms::new(alloc)?,
             seams: Seams::new(alloc),
         })
+    }
+
+    /// These tables, and a new index. Takes no memory.
+    pub(crate) fn on(alloc: Global, links: Links, blossoms: Blossoms) -> EmptyTables
+        requires links { links ≡ [] }
+        requires blossoms { blossoms ≡ [] }
+    {
+        EmptyTables {
+            links,
+            blossoms,
+            seams: Seams::new(alloc),
+        }
     }
 }
 

@@ -225,14 +225,15 @@ impl<'a> Work<'a> {
         };
         scope.limits();
         let mut merged = merged_parts(alloc, &scope, left, right)?;
-        let (tables, merged) = both(complete(alloc, &mut merged), merged)?;
+        let whole = complete(alloc, &mut merged).and(Ok(merged))?;
         let MergedParts {
             parts,
             others,
             room,
+            emptied,
             ..
-        } = merged;
-        let spare = Spare::beside(room, tables, others);
+        } = whole;
+        let spare = Spare::beside(room, emptied, others);
         Ok((Work { parts }, spare))
     }
 }

@@ -10,7 +10,7 @@ use Rattle.fb_half.specs.Parts.{PartValue}
 use Rattle.fb_half.specs.Values.{HasScope, part_of}
 use Rattle.fb_half.specs.declared.merging.MergedParts.{MergedParts}
 use Rattle.fb_half.proofs.BesideNodes.{new_names}
-use Rattle.fb_half.proofs.DoneSteps.{both_with}
+use Rattle.fb_half.proofs.DoneSteps.{done_with}
 use Rattle.fb_half.proofs.FusedHalves.{fused_part}
 use Rattle.fb_half.proofs.FusedMatches.{merged_is}
 use Rattle.fb_half.proofs.GivenHalves.{halves_of, pieces_are}
@@ -103,17 +103,17 @@ invariant_of-result c =
       matches = l.matches ++ map (renamed_match (name_by c.in_ok-merged.merged.link_names.items) (name_by c.in_ok-merged.merged.names.items)) c.in_ok-merged.merged.others.matches;
       unmatched = l.unmatched;
     }) c.in_ok-merged.ensures.matching) in (
-      both_with (λ (m : MergedParts). HasScope m.parts) c.complete.result c.in_ok-tables.tables c.complete.new.merged c.in_ok-tables.merged
-          c.in_ok-tables.ensures.0 c.in_ok-tables.ensures.1 c.complete.ensures.scope,
+      done_with (λ (m : MergedParts). HasScope m.parts) c.complete.result c.complete.new.merged c.in_ok-whole.whole
+          c.in_ok-whole.ensures c.complete.ensures.scope,
       fused_part (part_of c.into_parts-left.result) (part_of c.into_parts-right.result) c.args.node h.limits h.children h.one h.two h.matched h.also
           c.in_ok-merged.merged.link_names.items c.in_ok-merged.merged.names.items c.in_ok-merged.merged.parts.links c.in_ok-merged.merged.parts.blossoms c.in_ok-merged.ensures.links stores
-          (drop (length (made.matching.unmatched ++ met_nodes made)) c.in_ok-tables.merged.parts.matching.unmatched) (part_of c.in_ok-tables.merged.parts)
+          (drop (length (made.matching.unmatched ++ met_nodes made)) c.in_ok-whole.whole.parts.matching.unmatched) (part_of c.in_ok-whole.whole.parts)
           (beside (part_of c.into_parts-left.result) (part_of c.into_parts-right.result) c.args.node h.limits h.children h.one h.two h.matched h.also
           c.in_ok-merged.merged.link_names.items c.in_ok-merged.merged.names.items c.in_ok-merged.merged.parts.links c.in_ok-merged.merged.parts.blossoms c.in_ok-merged.ensures.links stores)
           refl
-          (subst (λ x. IsOpened (drop (length (made.matching.unmatched ++ met_nodes made)) c.in_ok-tables.merged.parts.matching.unmatched) x (part_of c.in_ok-tables.merged.parts)) same
-          (both_with (λ (m : MergedParts). IsOpened (drop (length (made.matching.unmatched ++ met_nodes made)) m.parts.matching.unmatched) made (part_of m.parts))
-          c.complete.result c.in_ok-tables.tables c.complete.new.merged c.in_ok-tables.merged c.in_ok-tables.ensures.0 c.in_ok-tables.ensures.1 c.complete.ensures.opened)),
+          (subst (λ x. IsOpened (drop (length (made.matching.unmatched ++ met_nodes made)) c.in_ok-whole.whole.parts.matching.unmatched) x (part_of c.in_ok-whole.whole.parts)) same
+          (done_with (λ (m : MergedParts). IsOpened (drop (length (made.matching.unmatched ++ met_nodes made)) m.parts.matching.unmatched) made (part_of m.parts))
+          c.complete.result c.complete.new.merged c.in_ok-whole.whole c.in_ok-whole.ensures c.complete.ensures.opened)),
     )
 
 pub returns : goal.returns
@@ -134,15 +134,15 @@ returns c =
       matches = l.matches ++ map (renamed_match (name_by c.in_ok-merged.merged.link_names.items) (name_by c.in_ok-merged.merged.names.items)) c.in_ok-merged.merged.others.matches;
       unmatched = l.unmatched;
     }) c.in_ok-merged.ensures.matching) in
-    subst (λ j. promised.IsMerged j c.args.node c.args.left c.args.right (part_of c.in_ok-tables.merged.parts)) h.job
-    (subst (λ x. promised.IsMerged c.into_parts-left.result.job.now c.args.node x c.args.right (part_of c.in_ok-tables.merged.parts)) c.into_parts-left.ensures.value
-    (subst (λ x. promised.IsMerged c.into_parts-left.result.job.now c.args.node (part_of c.into_parts-left.result) x (part_of c.in_ok-tables.merged.parts)) c.into_parts-right.ensures.value
+    subst (λ j. promised.IsMerged j c.args.node c.args.left c.args.right (part_of c.in_ok-whole.whole.parts)) h.job
+    (subst (λ x. promised.IsMerged c.into_parts-left.result.job.now c.args.node x c.args.right (part_of c.in_ok-whole.whole.parts)) c.into_parts-left.ensures.value
+    (subst (λ x. promised.IsMerged c.into_parts-left.result.job.now c.args.node (part_of c.into_parts-left.result) x (part_of c.in_ok-whole.whole.parts)) c.into_parts-right.ensures.value
     (merged_is (part_of c.into_parts-left.result) (part_of c.into_parts-right.result) c.args.node h.limits h.children h.one h.two h.matched h.also
     c.in_ok-merged.merged.link_names.items c.in_ok-merged.merged.names.items c.in_ok-merged.merged.parts.links c.in_ok-merged.merged.parts.blossoms c.in_ok-merged.ensures.links stores
     h.same_job
-    (drop (length (made.matching.unmatched ++ met_nodes made)) c.in_ok-tables.merged.parts.matching.unmatched) (part_of c.in_ok-tables.merged.parts)
+    (drop (length (made.matching.unmatched ++ met_nodes made)) c.in_ok-whole.whole.parts.matching.unmatched) (part_of c.in_ok-whole.whole.parts)
     (beside (part_of c.into_parts-left.result) (part_of c.into_parts-right.result) c.args.node h.limits h.children h.one h.two h.matched h.also
     c.in_ok-merged.merged.link_names.items c.in_ok-merged.merged.names.items c.in_ok-merged.merged.parts.links c.in_ok-merged.merged.parts.blossoms c.in_ok-merged.ensures.links stores)
-    (subst (λ x. IsOpened (drop (length (made.matching.unmatched ++ met_nodes made)) c.in_ok-tables.merged.parts.matching.unmatched) x (part_of c.in_ok-tables.merged.parts)) same
-    (both_with (λ (m : MergedParts). IsOpened (drop (length (made.matching.unmatched ++ met_nodes made)) m.parts.matching.unmatched) made (part_of m.parts))
-    c.complete.result c.in_ok-tables.tables c.complete.new.merged c.in_ok-tables.merged c.in_ok-tables.ensures.0 c.in_ok-tables.ensures.1 c.complete.ensures.opened)))))
+    (subst (λ x. IsOpened (drop (length (made.matching.unmatched ++ met_nodes made)) c.in_ok-whole.whole.parts.matching.unmatched) x (part_of c.in_ok-whole.whole.parts)) same
+    (done_with (λ (m : MergedParts). IsOpened (drop (length (made.matching.unmatched ++ met_nodes made)) m.parts.matching.unmatched) made (part_of m.parts))
+    c.complete.result c.complete.new.merged c.in_ok-whole.whole c.in_ok-whole.ensures c.complete.ensures.opened)))))
