@@ -10,8 +10,8 @@ from readers import Refused
 
 
 def layers_of(graph):
-    """The layer of each real vertex: how many edges with two real ends lead to it from the least vertex that they connect
-    it with."""
+    """The layer of each real vertex: how many edges with two real ends lead to it from the least vertex that they
+    connect it with."""
     real = [v for v in range(graph.vertices) if v not in set(graph.virtuals)]
     near = neighbours(graph, real)
     layers = {}
@@ -36,8 +36,8 @@ def runs(vertices):
 
 
 def plan_by_layers(graph, units):
-    """The units are runs of layers that share them evenly, with a layer between two neighbours: the seam of the fusion that
-    joins them. Nodes are joined two and two, level by level."""
+    """The units are runs of layers that share them evenly, with a layer between two neighbours: the seam of the fusion
+    that joins them. Nodes are joined two and two, level by level."""
     layers = layers_of(graph)
     height = max(layers.values(), default=-1) + 1
     if units > 1 and height < 2 * units - 1:
