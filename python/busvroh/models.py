@@ -6,12 +6,15 @@
 Vertex k of the graph is detector k, and the last vertex is the boundary. An error of two detectors is an edge between
 them, an error of one an edge to the boundary; parts that are split by `^` count as errors of their own. Errors with the
 same detectors and observables become one edge, in the place of the first of them: it stands for an odd number of them.
+Coordinates of detectors are read only on request: `busvroh.plans` makes plans by them.
 """
 
+import itertools
 import json
 import math
 import re
 from array import array
+from collections import namedtuple
 
 MOST_VERTICES = 1_048_576
 MOST_DETECTORS = MOST_VERTICES - 1  # one vertex is the boundary
@@ -64,6 +67,15 @@ def repeated_rate(rate, count):
     return rate if count == 1 or rate == 1 / 2 else -math.expm1(count * math.log1p(-2 * rate)) / 2
 
 
+# The last coordinate of a detector: its place among the coordinates, its value, and the line that it stands at.
+Time = namedtuple("Time", "place value line")
+
+
+def moved(coordinates, step, count=1):
+    """Coordinates after `count` steps. Those that aren't named are 0."""
+    return [start + count * by for start, by in itertools.zip_longest(coordinates, step, fillvalue=0)]
+
+
 class Model:
     """The edges of a model, with the rate of each; how many detectors and observables it has, and how many parts with
     more than two detectors were skipped."""
@@ -78,6 +90,18 @@ class Model:
             low, high = key >> BITS & DETECTOR_MASK, key & DETECTOR_MASK
             if rate > 0:
                 yield (low,) if low == high else (low, high), self._flips[key >> 2 * BITS], rate, line
+
+    def times(self):
+        """The last coordinate of each detector, if the model was read with its coordinates."""
+        times = self._block.times
+        for detector in range(self.detectors):
+            if detector not in times:
+                raise error_at(self._line_of(detector), f"detector {detector} has no coordinate")
+        return [times[detector].value for detector in range(self.detectors)]
+
+    def _line_of(self, detector):
+        """The line of the first error of a detector; if it has none, that of the last detector."""
+        return min((line for ends, _, _, line in self.edges() if detector in ends), default=self._block.last_line)
 
     def graph(self, scale=DEFAULT_SCALE):
         """The graph as `fusion` reads it, whose member `observables` lists the edges of each observable.
@@ -123,13 +147,23 @@ class Block:
         self.line, self.count = line, count
         self.rates, self.lines = {}, array("I")
         self.shift = self.detectors = self.skipped = 0
+        self.times, self.step, self.last_line = {}, [], 0
 
     def count_detector(self, detector, line):
         if detector >= self.detectors:
             if detector >= MOST_DETECTORS:
                 limit = f"a graph has at most {MOST_VERTICES} vertices with the boundary"
                 raise error_at(line, f"more than {MOST_DETECTORS} detectors: {limit}")
-            self.detectors = detector + 1
+            self.detectors, self.last_line = detector + 1, line
+
+    def set_time(self, detector, time):
+        """Sets the last coordinate of a detector, once for all."""
+        if not math.isfinite(time.value):
+            raise error_at(time.line, "coordinates are numbers, separated by commas")
+        before = self.times.setdefault(detector, time)
+        if before[:2] != time[:2]:
+            differs = f"the last coordinate of a detector is {time.value:g}, and at line {before.line} {before.value:g}"
+            raise error_at(time.line, differs)
 
     def add(self, key, rate, line):
         """Adds an error to its edge. One that never happens gets none."""
@@ -158,7 +192,10 @@ class Block:
         elif body.rates:
             for turn in range(body.count):
                 self.add_edges(body, turn * body.shift, 1)
+        if body.times:
+            self.add_times(body)
         self.shift += body.count * body.shift
+        self.step = moved(self.step, body.step, body.count)
 
     def add_edges(self, body, shift, count):
         """Adds each edge of a block `count` times, its detectors shifted."""
@@ -166,12 +203,21 @@ class Block:
         for (key, rate), line in zip(body.rates.items(), body.lines):
             self.add(key + step, repeated_rate(rate, count), line)
 
+    def add_times(self, body):
+        """Sets the times of a block as often as it is repeated. If no detector is shifted, a second time tells as much as
+        all."""
+        for turn in range(body.count if body.shift else min(body.count, 2)):
+            step = moved(self.step, body.step, turn)
+            for detector, (place, value, line) in body.times.items():
+                value += step[place] if place < len(step) else 0
+                self.set_time(self.shift + turn * body.shift + detector, Time(place, value, line))
+
 
 class Reader:
     """Reads the lines of a model one by one."""
 
-    def __init__(self, skip_hyperedges):
-        self.skip_hyperedges = skip_hyperedges
+    def __init__(self, skip_hyperedges, coordinates):
+        self.skip_hyperedges, self.has_coordinates = skip_hyperedges, coordinates
         self.line, self.blocks, self.observables = 0, [Block()], 0
         self.flips, self.place_of_flips = [()], {(): 0}
         # What the texts of rates and of observables mean; a model has few different ones.
@@ -204,17 +250,33 @@ class Reader:
         if name == "error":
             self.take_error(arguments, targets)
         elif name == "detector":
-            for detector in self.numbers("D", targets.split()):
-                self.count_detector(detector)
+            self.take_detectors(arguments, self.numbers("D", targets.split()))
         elif name == "logical_observable":
             for observable in self.numbers("L", targets.split()):
                 self.count_observable(observable)
         elif name == "shift_detectors":
             self.blocks[-1].shift += self.one_number(targets)
+            if self.has_coordinates:
+                self.blocks[-1].step = moved(self.blocks[-1].step, self.coordinates(arguments))
         elif name == "repeat":
             self.open_block(self.one_number(targets))
         else:
             raise self.error(f"{name}: not an instruction of a detector error model")
+
+    def take_detectors(self, arguments, detectors):
+        coordinates = self.coordinates(arguments) if self.has_coordinates else []
+        if self.has_coordinates and not coordinates:
+            raise self.error("a detector without coordinates")
+        block, place = self.blocks[-1], len(coordinates) - 1
+        for detector in map(self.count_detector, detectors):
+            if coordinates:
+                block.set_time(detector, Time(place, moved(coordinates, block.step)[place], self.line))
+
+    def coordinates(self, text):
+        try:
+            return [float(number) for number in text.split(",")] if (text or "").strip() else []
+        except ValueError:
+            raise self.error("coordinates are numbers, separated by commas") from None
 
     def open_block(self, count):
         if count == 0:
@@ -333,13 +395,14 @@ def shortened(text):
     return text if len(text) <= 60 else text[:57] + "..."
 
 
-def read_model(lines, skip_hyperedges=False):
-    """Reads a model, as the lines of an open file or of `str(model).splitlines()`.
+def read_model(lines, skip_hyperedges=False, coordinates=False):
+    """Reads a model, as the lines of an open file or of `str(model).splitlines()`, with the coordinates of its detectors on
+    request.
 
     Parts with more than two detectors are an error, unless they are skipped and counted. So are a part that flips an
     observable and no detector, and whatever exceeds the limits of a graph. Raises `ModelError`.
     """
-    reader = Reader(skip_hyperedges)
+    reader = Reader(skip_hyperedges, coordinates)
     for line in lines:
         reader.read(line)
     return reader.finish()
