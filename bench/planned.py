@@ -1,0 +1,236 @@
+"""The parts of bench/run on plans."""
+
+import json
+import os
+import random
+import subprocess
+import sys
+
+from measuring import (
+    FEW_DEFECTS,
+    FUSION,
+    LEAST_SECONDS,
+    ROOT,
+    Graph,
+    decode,
+    defects_of,
+    few_defects,
+    flipped_edges,
+    instructions,
+    least_in_turn,
+    least_run,
+    plan_by_rounds,
+    print_line,
+    rounds_lattice,
+    run_once,
+    seconds_of,
+    write_graph,
+    write_hit_shots,
+    write_packed,
+)
+
+sys.path.insert(0, str(ROOT / "python"))
+from busvroh.codes import surface_code
+from busvroh.models import graph_text, read_model
+from busvroh.plans import plan_by_time, plan_text
+
+# Plans.
+
+UNITS = [1, 2, 4, 8, 16, 32]
+
+
+def bench_fusions(folder, quick):
+    distance, rounds, rate, shots = 7, 63, 0.005, 20 if quick else 200
+    graph = rounds_lattice(distance, rounds)
+    write_graph(graph, folder / "graph.json")
+    defects = write_hit_shots(graph, rate, shots, folder)
+    print_line(f"distance {distance}, {rounds} rounds at {100 * rate:.1f} %", ["units", "us/shot", "of no plan", "peak MB"])
+    whole = least_run(decode(folder, "b8"), folder)
+    print(f"  {shots} shots of {defects / shots:.1f} defects")
+    for is_chain in [False, True]:
+        for units in UNITS:
+            plan = plan_by_rounds(distance * (distance + 1), rounds, units, is_chain)
+            (folder / "plan.json").write_text(json.dumps(plan))
+            best = least_run([*decode(folder, "b8"), "--plan", folder / "plan.json"], folder)
+            cells = [f"{units}", f"{1e6 * best.processor_seconds / shots:,.1f}"]
+            cells += [f"x{best.processor_seconds / whole.processor_seconds:.2f}", f"{best.memory:,.1f}" if best.memory else "-"]
+            print_line("chain" if is_chain else "balanced", cells)
+
+
+# Plans of many units.
+
+MANY_UNITS = [1, 16, 64, 256, 4_096]
+MORE_DEFECTS = 50
+
+
+def measure_plans(name, graph, distance, rounds, make, shots, is_chain, folder):
+    """What a shot takes by plans of more and more units, and what each further item of a plan costs: in time, and in
+    instructions."""
+    virtuals, draw = set(graph.virtuals), random.Random(1)
+    costs, counts = [], []
+    for units in MANY_UNITS:
+        if 2 * units - 1 > rounds:
+            continue
+        words = decode(folder, "b8")
+        if units > 1:
+            plan = plan_by_rounds(distance * (distance + 1), rounds, units, is_chain)
+            (folder / "plan.json").write_text(json.dumps(plan))
+            words += ["--plan", folder / "plan.json"]
+        (folder / "shots").write_bytes(b"")
+        bare, bare_count = least_run(words, folder), instructions(words)
+        write_packed(graph, virtuals, (make(draw, graph, virtuals) for _ in range(shots)), folder / "shots")
+        best, count = least_run(words, folder), instructions(words)
+        costs.append(max(best.processor_seconds - bare.processor_seconds, LEAST_SECONDS) / shots)
+        each = 1e6 * max(costs[-1] - costs[0], 0) / (2 * units - 1)
+        cells = [f"{units:,}", f"{1e6 * costs[-1]:,.1f}", f"x{costs[-1] / costs[0]:.2f}", f"{each:,.2f}"]
+        cells.append(f"{best.memory:,.1f}" if best.memory else "-")
+        if count:
+            counts.append((count - bare_count) / shots)
+            each = max(counts[-1] - counts[0], 0) / (2 * units - 1)
+            cells += [f"{counts[-1]:,.0f}", f"x{counts[-1] / counts[0]:.2f}", f"{each:,.0f}"]
+        print_line(name, cells)
+
+
+def bench_plans(folder, quick):
+    distance, rounds = (10, 511) if quick else (10, 8_191)
+    graph = rounds_lattice(distance, rounds)
+    write_graph(graph, folder / "graph.json")
+    heads = ["units", "us/shot", "of no plan", "us/item", "peak MB", "instructions/shot", "of no plan", "/item"]
+    print_line(f"{graph.vertices:,} vertices, {len(graph.edges):,} edges", heads)
+
+    def more_defects(draw, graph, virtuals):
+        return few_defects(draw, graph, virtuals, MORE_DEFECTS)
+
+    def hit(draw, graph, virtuals):
+        return defects_of(graph, virtuals, flipped_edges(draw, len(graph.edges), 0.001))
+
+    for is_chain in [False, True]:
+        shape = "chain" if is_chain else "balanced"
+        measure_plans(f"{FEW_DEFECTS} defects, {shape}", graph, distance, rounds, few_defects, 20, is_chain, folder)
+        measure_plans(f"{MORE_DEFECTS} defects, {shape}", graph, distance, rounds, more_defects, 20, is_chain, folder)
+        measure_plans(f"0.1 %, {shape}", graph, distance, rounds, hit, 2, is_chain, folder)
+    bench_gains(folder, quick)
+
+
+# When a plan pays: by workers alone. What counts is the time that goes by.
+
+GAIN_UNITS = [2, 4, 8, 16, 32]
+GAIN_WINDOWS = [1, 64]
+
+
+def write_plan(units, file, folder):
+    """Has the program make a plan of the graph, and gives the options that name it; one unit is no plan."""
+    if units == 1:
+        return []
+    with open(file, "wb") as out:
+        subprocess.run([FUSION, "plan", "--graph", folder / "graph.json", "--units", str(units)], stdout=out, check=True)
+    return ["--plan", file]
+
+
+def shot_seconds(ways, folder):
+    """The seconds that go by in each way to decode the shots, without those that reading the graph and the plan takes."""
+    calls = []
+    for words in ways:
+        bare = [os.devnull if word == folder / "shots" else word for word in words]
+        calls += [lambda words=each: seconds_of(words, folder) for each in (bare, words)]
+    times = least_in_turn(calls)
+    return [max(full - empty, LEAST_SECONDS) for empty, full in zip(times[::2], times[1::2])]
+
+
+def measure_gains(distance, rounds, rate, shots, folder):
+    """What a shot takes one worker without a plan, and how much faster four workers are, without a plan and by plans."""
+    graph = rounds_lattice(distance, rounds)
+    write_graph(graph, folder / "graph.json")
+    defects = write_hit_shots(graph, rate, shots, folder)
+    plans = [write_plan(units, folder / f"plan-{units}.json", folder) for units in [1, *GAIN_UNITS] if 2 * units - 1 <= rounds]
+    words = decode(folder, "b8")
+    for window in GAIN_WINDOWS:
+        crew = ["--workers", "4", "--window", str(window)]
+        alone, *by_crew = shot_seconds([words, *([*words, *crew, *plan] for plan in plans)], folder)
+        cells = [f"{window}", f"{defects / shots:,.0f}", f"{1e6 * alone / shots:,.0f}"]
+        print_line(f"distance {distance} rounds {rounds} at {100 * rate:.1f} %", cells + [f"x{alone / each:.2f}" for each in by_crew])
+
+
+def bench_gains(folder, quick):
+    heads = ["window", "defects", "us/shot", "no plan", *(f"{units} units" for units in GAIN_UNITS)]
+    print_line("faster by four workers", heads)
+    measure_gains(9, 90, 0.001, 256 if quick else 2_048, folder)
+    measure_gains(9, 90, 0.005, 128 if quick else 512, folder)
+    for rounds in [513] if quick else [513, 4_097]:
+        measure_gains(9, rounds, 0.005, 64 if quick else 256, folder)
+    measure_gains(21, 21, 0.005, 64 if quick else 256, folder)
+
+
+# Plans that the program makes.
+
+MOST_VERTICES = 1_048_576
+NEAR, FAR = [1, 2, 3, 4], [1, 2, 1_000, 30_000]
+
+
+def edges_to_later(vertices, steps=FAR):
+    """Edges from each vertex to four later ones."""
+    for v in range(vertices):
+        for step in steps:
+            yield v, (v + step) % vertices, 2 * (v % 512)
+
+
+def measure_making(name, steps, units, folder, vertices):
+    """What making a plan takes, beside reading the graph with `decode`."""
+    write_graph(Graph(vertices, edges_to_later(vertices, steps), range(0, vertices, 1_024)), folder / "graph.json")
+    (folder / "shots").write_bytes(b"")
+    make = [FUSION, "plan", "--graph", folder / "graph.json", "--units"]
+    ways = [decode(folder), *([*make, str(each)] for each in units)]
+    calls = [lambda words=each: run_once(words, folder).processor_seconds for each in ways]
+    read, *made = least_in_turn(calls)
+    counted, *counts = map(instructions, ways)
+    for each, seconds, count in zip(units, made, counts):
+        cells = [f"{vertices:,}", f"{len(steps) * vertices:,}", f"{each:,}", f"{read:.2f}", f"x{seconds / read:.2f}"]
+        print_line(name, [*cells, *([f"x{count / counted:.2f}"] if count else [])])
+
+
+LAYER_UNITS = [4, 16, 64]
+
+
+def measure_layers(name, units, plan, folder):
+    """Decoding by a plan by layers beside one by time: four workers' time, and one worker's instructions."""
+    (folder / "time.json").write_text(plan)
+    words = decode(folder, "b8")
+    ways = [[*words, "--plan", folder / "time.json"], [*words, *write_plan(units, folder / "layers.json", folder)]]
+    by_time, by_layers = shot_seconds([[*way, "--workers", "4", "--window", "64"] for way in ways], folder)
+    cells = [f"{units}", f"{1e3 * by_time:,.1f}", f"x{by_layers / by_time:.2f}"]
+    counted, count = map(instructions, ways)
+    print_line(name, [*cells, *([f"x{count / counted:.3f}"] if count else [])])
+
+
+def measure_lattice(distance, rounds, shots, most_units, folder):
+    graph = rounds_lattice(distance, rounds)
+    write_graph(graph, folder / "graph.json")
+    write_hit_shots(graph, 0.005, shots, folder)
+    for units in LAYER_UNITS:
+        if units <= most_units and 2 * units - 1 <= rounds:
+            plan = json.dumps(plan_by_rounds(distance * (distance + 1), rounds, units, False))
+            measure_layers(f"distance {distance} rounds {rounds}", units, plan, folder)
+
+
+def measure_model(distance, rounds, shots, most_units, folder):
+    """A surface code's model in Stim's form."""
+    code = surface_code(distance, rounds, 0.005)
+    model = read_model(code.model_text().splitlines(), coordinates=True)
+    (folder / "graph.json").write_text(graph_text(model.graph()))
+    size = (code.detectors + 7) // 8
+    (folder / "shots").write_bytes(b"".join(fired.to_bytes(size, "little") for fired, _ in code.shots(shots, 1)))
+    for units in LAYER_UNITS:
+        if units <= most_units and 2 * units - 1 <= rounds:
+            measure_layers(f"model: {distance}, {rounds} rounds", units, plan_text(plan_by_time(model, units)), folder)
+
+
+def bench_planning(folder, quick):
+    print_line("a plan beside reading the graph", ["vertices", "edges", "units", "reading s", "plan", "instructions"])
+    vertices = MOST_VERTICES // 16 if quick else MOST_VERTICES
+    measure_making("edges to near vertices", NEAR, [2, 4_096], folder, vertices)
+    measure_making("edges to far vertices", FAR, [2], folder, vertices)
+    most_units, shots = (16, 64) if quick else (64, 256)
+    print_line("plans by layers beside time", ["units", "by time ms", "by layers", "instructions"])
+    for distance in [9, 13] if quick else [9, 13, 21]:
+        measure_lattice(distance, 10 * distance, shots, most_units, folder)
+    measure_model(9, 90, shots, most_units, folder)
