@@ -175,14 +175,14 @@ def edges_to_later(vertices, steps=FAR):
 
 
 def measure_making(name, steps, units, folder, vertices):
-    """What making a plan takes, beside reading the graph with `decode`."""
+    """What making a plan takes, beside reading the graph with `decode`; in instructions too, but for the largest graph."""
     write_graph(Graph(vertices, edges_to_later(vertices, steps), range(0, vertices, 1_024)), folder / "graph.json")
     (folder / "shots").write_bytes(b"")
     make = [FUSION, "plan", "--graph", folder / "graph.json", "--units"]
     ways = [decode(folder), *([*make, str(each)] for each in units)]
     calls = [lambda words=each: run_once(words, folder).processor_seconds for each in ways]
     read, *made = least_in_turn(calls)
-    counted, *counts = map(instructions, ways)
+    counted, *counts = [instructions(words) if vertices < MOST_VERTICES else None for words in ways]
     for each, seconds, count in zip(units, made, counts):
         cells = [f"{vertices:,}", f"{len(steps) * vertices:,}", f"{each:,}", f"{read:.2f}", f"x{seconds / read:.2f}"]
         print_line(name, [*cells, *([f"x{count / counted:.2f}"] if count else [])])
