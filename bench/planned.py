@@ -114,7 +114,7 @@ def bench_plans(folder, quick):
 
 # When a plan pays: by workers alone. What counts is the time that goes by.
 
-GAIN_UNITS = [2, 4, 8, 16, 32]
+GAIN_UNITS = [2, 4, 16]
 GAIN_WINDOWS = [1, 64]
 
 
@@ -154,11 +154,11 @@ def measure_gains(distance, rounds, rate, shots, folder):
 def bench_gains(folder, quick):
     heads = ["window", "defects", "us/shot", "no plan", *(f"{units} units" for units in GAIN_UNITS)]
     print_line("faster by four workers", heads)
-    measure_gains(9, 90, 0.001, 256 if quick else 2_048, folder)
-    measure_gains(9, 90, 0.005, 128 if quick else 512, folder)
-    for rounds in [513] if quick else [513, 4_097]:
-        measure_gains(9, rounds, 0.005, 64 if quick else 256, folder)
-    measure_gains(21, 21, 0.005, 64 if quick else 256, folder)
+    for distance, rounds, shots in [(9, 90, 1_024), (9, 1_025, 128), (21, 210, 64)]:
+        measure_gains(distance, rounds, 0.005, shots, folder)
+    if not quick:
+        measure_gains(9, 90, 0.001, 4_096, folder)
+        measure_gains(9, 4_097, 0.005, 128, folder)
 
 
 # Plans that the program makes.
