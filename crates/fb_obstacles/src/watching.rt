@@ -193,7 +193,7 @@ impl Watch {
         ensures { self.new ≡ unqueued place self.old }
     {
         self.queued -= 1;
-        self.known.swap_indices(place, self.queued);
+        exchange(&mut self.known, place, self.queued);
     }
 
     /// Moves the edge at this place, which isn't in the queue, behind the watched ones. The last one takes its place, and
@@ -204,7 +204,7 @@ impl Watch {
         ensures { self.new ≡ record { edge_count = self.old.edge_count; edges = swap_remove self.old.edges place 0; bounds = swap_remove self.old.bounds place 0; queued = self.old.queued } }
     {
         self.live -= 1;
-        self.known.swap_indices(place, self.live);
+        exchange(&mut self.known, place, self.live);
     }
 
     /// Watches no edge any longer.
@@ -272,7 +272,7 @@ impl Watch {
         match pop_waiting(&mut self.queue, &self.known, self.queued, growth) {
             Some(place) => {
                 self.queued -= 1;
-                self.known.swap_indices(place, self.queued);
+                exchange(&mut self.known, place, self.queued);
                 true
             }
             None => false,
@@ -304,7 +304,7 @@ impl Watch {
         }
         let edge = self.known.keys().as_slice()[place];
         if self.queue.push(growth, edge) {
-            self.known.swap_indices(place, self.queued);
+            exchange(&mut self.known, place, self.queued);
             self.queued += 1;
         }
     }
@@ -375,7 +375,20 @@ fn bring(known: &mut Known, place: usize, first: usize, bound: u64)
     ensures spare { spare known.old ≤ spare known.new }
 {
     known[place] = bound;
-    known.swap_indices(place, first);
+    exchange(known, place, first);
+}
+
+/// Exchanges two entries. An entry that is in its place already costs nothing.
+fn exchange(known: &mut Known, one: usize, other: usize)
+    requires one { one < index_map_len known.old }
+    requires other { other < index_map_len known.old }
+    ensures entries { known.new.entries ≡ swap known.old.entries one other }
+    ensures len { index_map_len known.new ≡ index_map_len known.old }
+    ensures room { spare known.old ≤ spare known.new }
+{
+    if one != other {
+        known.swap_indices(one, other);
+    }
 }
 
 /// The place of the edge that is due, if it waits in the queue with this growth.

@@ -26,14 +26,14 @@ invariant_of-self c =
     let here : is_due c.push.new.self (get_or (values c.self.inside.known) c.args.place 0)
     (get_or (keys c.self.inside.known) c.args.place 0) ≡ true =
     (λ j. is_due c.push.new.self (sym growth_is j) (sym edge_is j)) ∙ c.if-push.ensures.added refl in (
-      kept_swapped c.self.inside.known c.swap_indices.new.self c.args.place c.self.inside.queued c.self.inside.live
-          c.self.inside.edge_count c.swap_indices.ensures.entries c.swap_indices.ensures.reordered.1 c.swap_indices.ensures.room.0
+      kept_swapped c.self.inside.known c.exchange.new.known c.args.place c.self.inside.queued c.self.inside.live
+          c.self.inside.edge_count c.exchange.ensures.entries c.exchange.ensures.len c.exchange.ensures.room
           first second c.self.invariant.0 c.self.inside.live (omega arith),
       record {
         watched = omega (arith, second);
-        due = due_in_next c.self.inside.known c.swap_indices.new.self c.args.place c.self.inside.queued c.self.inside.live
-            c.self.inside.edge_count c.swap_indices.ensures.entries c.swap_indices.ensures.reordered.1
-            c.swap_indices.ensures.room.0 first second c.self.invariant.0 c.push.new.self (c.self.inside.queued + 1)
+        due = due_in_next c.self.inside.known c.exchange.new.known c.args.place c.self.inside.queued c.self.inside.live
+            c.self.inside.edge_count c.exchange.ensures.entries c.exchange.ensures.len
+            c.exchange.ensures.room first second c.self.invariant.0 c.push.new.self (c.self.inside.queued + 1)
             (due_queued c.push.new.self (values c.self.inside.known) (keys c.self.inside.known) even c.args.place
             c.self.inside.queued behind (omega (arith, first, most))
             (λ i less. c.if-push.ensures.kept _ _ (c.self.invariant.1.due i less)) here);
@@ -61,12 +61,12 @@ returns-then-push-clause-same c =
     (subst (Reorders _)
     (sym (λ j. record {
       edge_count = c.self.inside.edge_count;
-      edges = edges_swapped c.self.inside.known c.swap_indices.new.self c.args.place c.self.inside.queued c.self.inside.live
-          c.self.inside.edge_count c.swap_indices.ensures.entries c.swap_indices.ensures.reordered.1
-          c.swap_indices.ensures.room.0 first second c.self.invariant.0 j;
-      bounds = bounds_swapped c.self.inside.known c.swap_indices.new.self c.args.place c.self.inside.queued c.self.inside.live
-          c.self.inside.edge_count c.swap_indices.ensures.entries c.swap_indices.ensures.reordered.1
-          c.swap_indices.ensures.room.0 first second c.self.invariant.0 c.self.inside.lowered j;
+      edges = edges_swapped c.self.inside.known c.exchange.new.known c.args.place c.self.inside.queued c.self.inside.live
+          c.self.inside.edge_count c.exchange.ensures.entries c.exchange.ensures.len
+          c.exchange.ensures.room first second c.self.invariant.0 j;
+      bounds = bounds_swapped c.self.inside.known c.exchange.new.known c.args.place c.self.inside.queued c.self.inside.live
+          c.self.inside.edge_count c.exchange.ensures.entries c.exchange.ensures.len
+          c.exchange.ensures.room first second c.self.invariant.0 c.self.inside.lowered j;
       queued = c.self.inside.queued + 1;
     }))
     (reorders_exchanged _ c.args.place c.self.inside.queued

@@ -18,14 +18,14 @@ invariant_of-self c =
     let second : c.self.inside.live - 1 < c.self.inside.live = omega (arith, first) in
     let even : length (values c.self.inside.known) ≡ length (keys c.self.inside.known) =
     length-values c.self.inside.known.entries ∙ sym (length-keys c.self.inside.known.entries) in (
-      kept_swapped c.self.inside.known c.swap_indices.new.self c.args.place (c.self.inside.live - 1) c.self.inside.live
-          c.self.inside.edge_count c.swap_indices.ensures.entries c.swap_indices.ensures.reordered.1 c.swap_indices.ensures.room.0
+      kept_swapped c.self.inside.known c.exchange.new.known c.args.place (c.self.inside.live - 1) c.self.inside.live
+          c.self.inside.edge_count c.exchange.ensures.entries c.exchange.ensures.len c.exchange.ensures.room
           first second c.self.invariant.0 (c.self.inside.live - 1) (omega arith),
       record {
         watched = omega (arith, first, behind);
-        due = due_in_next c.self.inside.known c.swap_indices.new.self c.args.place (c.self.inside.live - 1) c.self.inside.live
-            c.self.inside.edge_count c.swap_indices.ensures.entries c.swap_indices.ensures.reordered.1
-            c.swap_indices.ensures.room.0 first second c.self.invariant.0 c.self.inside.queue c.self.inside.queued
+        due = due_in_next c.self.inside.known c.exchange.new.known c.args.place (c.self.inside.live - 1) c.self.inside.live
+            c.self.inside.edge_count c.exchange.ensures.entries c.exchange.ensures.len
+            c.exchange.ensures.room first second c.self.invariant.0 c.self.inside.queue c.self.inside.queued
             (due_beside c.self.inside.queue (values c.self.inside.known) (keys c.self.inside.known) even c.args.place
             (c.self.inside.live - 1) c.self.inside.queued behind (omega (arith, behind, first)) (omega (arith, first, most))
             (omega (arith, second, most)) c.self.invariant.1.due);
@@ -40,20 +40,20 @@ returns c =
     let less : c.args.place < c.self.inside.live =
     omega (arith, inside, length-take-le c.self.inside.live (keys c.self.inside.known) most) in
     let second : c.self.inside.live - 1 < c.self.inside.live = omega (arith, less) in
-    let edges : take (c.self.inside.live - 1) (keys c.swap_indices.new.self)
+    let edges : take (c.self.inside.live - 1) (keys c.exchange.new.known)
     ≡ swap_remove (take c.self.inside.live (keys c.self.inside.known)) c.args.place 0 =
     ap (take (c.self.inside.live - 1))
-    (keys_swapped c.self.inside.known c.swap_indices.new.self c.args.place (c.self.inside.live - 1) c.self.inside.live
-    c.self.inside.edge_count c.swap_indices.ensures.entries c.swap_indices.ensures.reordered.1 c.swap_indices.ensures.room.0
+    (keys_swapped c.self.inside.known c.exchange.new.known c.args.place (c.self.inside.live - 1) c.self.inside.live
+    c.self.inside.edge_count c.exchange.ensures.entries c.exchange.ensures.len c.exchange.ensures.room
     less second c.self.invariant.0)
     ∙ swapped_out (keys c.self.inside.known) c.args.place c.self.inside.live less most in
     let lowered : List ℕ = map (λ b. b - c.self.inside.lowered) (values c.self.inside.known) in
-    let bounds : map (λ b. b - c.self.inside.lowered) (take (c.self.inside.live - 1) (values c.swap_indices.new.self))
+    let bounds : map (λ b. b - c.self.inside.lowered) (take (c.self.inside.live - 1) (values c.exchange.new.known))
     ≡ swap_remove (map (λ b. b - c.self.inside.lowered) (take c.self.inside.live (values c.self.inside.known))) c.args.place 0 =
-    sym (take-map (λ b. b - c.self.inside.lowered) (c.self.inside.live - 1) (values c.swap_indices.new.self))
+    sym (take-map (λ b. b - c.self.inside.lowered) (c.self.inside.live - 1) (values c.exchange.new.known))
     ∙ (ap (λ vs. take (c.self.inside.live - 1) (map (λ b. b - c.self.inside.lowered) vs))
-    (values_swapped c.self.inside.known c.swap_indices.new.self c.args.place (c.self.inside.live - 1) c.self.inside.live
-    c.self.inside.edge_count c.swap_indices.ensures.entries c.swap_indices.ensures.reordered.1 c.swap_indices.ensures.room.0
+    (values_swapped c.self.inside.known c.exchange.new.known c.args.place (c.self.inside.live - 1) c.self.inside.live
+    c.self.inside.edge_count c.exchange.ensures.entries c.exchange.ensures.len c.exchange.ensures.room
     less second c.self.invariant.0)
     ∙ (ap (take (c.self.inside.live - 1))
     (map-swap (λ b. b - c.self.inside.lowered) (values c.self.inside.known) c.args.place (c.self.inside.live - 1))

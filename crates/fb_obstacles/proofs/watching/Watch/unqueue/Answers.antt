@@ -12,14 +12,14 @@ invariant_of-self c =
     let second : c.self.inside.queued - 1 < c.self.inside.live = omega (arith, within, few) in
     let even : length (values c.self.inside.known) ≡ length (keys c.self.inside.known) =
     length-values c.self.inside.known.entries ∙ sym (length-keys c.self.inside.known.entries) in (
-      kept_swapped c.self.inside.known c.swap_indices.new.self c.args.place (c.self.inside.queued - 1) c.self.inside.live
-          c.self.inside.edge_count c.swap_indices.ensures.entries c.swap_indices.ensures.reordered.1 c.swap_indices.ensures.room.0
+      kept_swapped c.self.inside.known c.exchange.new.known c.args.place (c.self.inside.queued - 1) c.self.inside.live
+          c.self.inside.edge_count c.exchange.ensures.entries c.exchange.ensures.len c.exchange.ensures.room
           first second c.self.invariant.0 c.self.inside.live (omega arith),
       record {
         watched = omega (arith, few);
-        due = due_in_next c.self.inside.known c.swap_indices.new.self c.args.place (c.self.inside.queued - 1) c.self.inside.live
-            c.self.inside.edge_count c.swap_indices.ensures.entries c.swap_indices.ensures.reordered.1
-            c.swap_indices.ensures.room.0 first second c.self.invariant.0 c.self.inside.queue (c.self.inside.queued - 1)
+        due = due_in_next c.self.inside.known c.exchange.new.known c.args.place (c.self.inside.queued - 1) c.self.inside.live
+            c.self.inside.edge_count c.exchange.ensures.entries c.exchange.ensures.len
+            c.exchange.ensures.room first second c.self.invariant.0 c.self.inside.queue (c.self.inside.queued - 1)
             (due_unqueued c.self.inside.queue (values c.self.inside.known) (keys c.self.inside.known) even c.args.place
             c.self.inside.queued within
             (omega (arith, few, c.self.invariant.0.within, length-keys c.self.inside.known.entries))
@@ -36,11 +36,11 @@ returns c =
     rw (← c.self.view_is)
     (λ j. record {
       edge_count = c.self.inside.edge_count;
-      edges = edges_swapped c.self.inside.known c.swap_indices.new.self c.args.place (c.self.inside.queued - 1) c.self.inside.live
-          c.self.inside.edge_count c.swap_indices.ensures.entries c.swap_indices.ensures.reordered.1
-          c.swap_indices.ensures.room.0 first second c.self.invariant.0 j;
-      bounds = bounds_swapped c.self.inside.known c.swap_indices.new.self c.args.place (c.self.inside.queued - 1) c.self.inside.live
-          c.self.inside.edge_count c.swap_indices.ensures.entries c.swap_indices.ensures.reordered.1
-          c.swap_indices.ensures.room.0 first second c.self.invariant.0 c.self.inside.lowered j;
+      edges = edges_swapped c.self.inside.known c.exchange.new.known c.args.place (c.self.inside.queued - 1) c.self.inside.live
+          c.self.inside.edge_count c.exchange.ensures.entries c.exchange.ensures.len
+          c.exchange.ensures.room first second c.self.invariant.0 j;
+      bounds = bounds_swapped c.self.inside.known c.exchange.new.known c.args.place (c.self.inside.queued - 1) c.self.inside.live
+          c.self.inside.edge_count c.exchange.ensures.entries c.exchange.ensures.len
+          c.exchange.ensures.room first second c.self.invariant.0 c.self.inside.lowered j;
       queued = c.self.inside.queued - 1;
     })
