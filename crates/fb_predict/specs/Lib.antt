@@ -1,2 +1,3 @@
+pub mod ObservableText
 pub mod Codings
 pub mod InternalRests

@@ -2,5 +2,8 @@
 #![tactic(auto)]
 
 mod coded;
+mod entries;
+mod faults;
 
 pub use coded::{Coding, write_coded};
+pub use faults::ObsFault;
