@@ -1,6 +1,6 @@
 -- The observables of a text: one JSON value (RFC 8259), an object whose member `observables` lists the edges of each, or the
 -- first rule that the text breaks. Other members are ignored.
-use Rattle.std.specs.Prelude.{ℕ, suc, nat_lt, nat_le, Bool, ◌||◌, true, false, if◌then◌else◌, List, [], ◌∷◌, ◌++◌, length, codes, Option, Some, None, option_and_then, Result, Ok, Err}
+use Rattle.std.specs.Prelude.{ℕ, ◌+◌, nat_lt, nat_le, Bool, ◌||◌, false, if◌then◌else◌, List, [], ◌∷◌, ◌++◌, length, codes, Option, Some, None, option_and_then, Result, Ok, Err}
 use Rattle.std.specs.List.{list_any}
 use Rattle.serde_json.specs.Data.{Data, Items, no_items, item}
 use Rattle.serde_json.specs.Find.{get, as_array}
@@ -44,7 +44,7 @@ most_observables = 1024
 -- the number of the first list that passes, the first list being number i
 abbrev pub first_where : (List ℕ → Bool) → ℕ → List (List ℕ) → Option ℕ
 first_where passes i [] = None
-first_where passes i (list ∷ lists) = if passes list then Some i else first_where passes (suc i) lists
+first_where passes i (list ∷ lists) = if passes list then Some i else first_where passes (i + 1) lists
 
 -- whether a list has an edge that isn't below their count
 abbrev pub is_beyond : ℕ → List ℕ → Bool

@@ -4,6 +4,9 @@
 mod coded;
 mod entries;
 mod faults;
+mod reader;
+mod rules;
 
 pub use coded::{Coding, write_coded};
 pub use faults::ObsFault;
+pub use reader::{Observables, read_observables};
