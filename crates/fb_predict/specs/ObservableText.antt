@@ -1,5 +1,5 @@
--- The observables of a text: one JSON value (RFC 8259), an object whose member `observables` lists the edges of each, or the
--- first rule that the text breaks. Other members are ignored.
+-- The observables of a text: one JSON value (RFC 8259), an object whose member `observables` lists the edges of each; or
+-- the first rule that the text breaks. Other members are ignored.
 use Rattle.std.specs.Prelude.{ℕ, ◌+◌, nat_lt, nat_le, Bool, ◌||◌, false, if◌then◌else◌, List, [], ◌∷◌, ◌++◌, length, codes, Option, Some, None, option_and_then, Result, Ok, Err}
 use Rattle.std.specs.List.{list_any}
 use Rattle.serde_json.specs.Data.{Data, Items, no_items, item}

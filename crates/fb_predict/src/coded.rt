@@ -112,7 +112,8 @@ fn put_number<S: Sink>(sink: &mut S, before: &[u8], number: u64) -> Result<(), F
 
 /// Puts the word `shot` and a word `L` for each bit that is set.
 fn put_dets<S: Sink>(sink: &mut S, bits: &[bool]) -> Result<(), Failed>
-    ensures all { OnOk result (Appends (S.taken sink.old) (S.taken sink.new) (coded_dets bits.now)) }
+    ensures all { OnOk result
+        (Appends (S.taken sink.old) (S.taken sink.new) (coded_dets bits.now)) }
     ensures prefix { OnErr result
         (AppendsPrefix (S.taken sink.old) (S.taken sink.new) (coded_dets bits.now)) }
     ensures cause { HasCause (S.faults sink.old) (S.faults sink.new) result }
@@ -139,7 +140,8 @@ fn comma(any: bool) -> &'static [u8]
 
 /// Puts the places of the bits that are set, with a comma between each two.
 fn put_hits<S: Sink>(sink: &mut S, bits: &[bool]) -> Result<(), Failed>
-    ensures all { OnOk result (Appends (S.taken sink.old) (S.taken sink.new) (coded_hits bits.now)) }
+    ensures all { OnOk result
+        (Appends (S.taken sink.old) (S.taken sink.new) (coded_hits bits.now)) }
     ensures prefix { OnErr result
         (AppendsPrefix (S.taken sink.old) (S.taken sink.new) (coded_hits bits.now)) }
     ensures cause { HasCause (S.faults sink.old) (S.faults sink.new) result }

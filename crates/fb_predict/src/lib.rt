@@ -1,4 +1,4 @@
-//! Predictions of flipped observables: their bits, written in any of five formats.
+//! Predictions of flipped observables: the reader of a text of observables, and bits written in any of five formats.
 #![tactic(auto)]
 
 mod coded;

@@ -26,15 +26,16 @@ impl Model for Observables {
     ghost view = { λ o. map (λ l. l.items) o.lists.items };
 }
 
-/// The observables of a text over a graph with a number of edges, or the first rule that the text breaks. The text is one
-/// JSON value (RFC 8259): an object whose member `observables` lists the edges of each. Other members are ignored.
+/// The observables of a text over a graph with a number of edges, or the first rule that the text breaks. The text is
+/// one JSON value (RFC 8259): an object whose member `observables` lists the edges of each. Other members are ignored.
 pub fn read_observables(
     alloc: Global,
     bytes: &[u8],
     edge_count: u32,
 ) -> Result<Observables, ObsFault>
     ensures ok { IfOk result (λ o. observables_of_text bytes.now edge_count ≡ Ok o) }
-    ensures err { IfErr result (λ e. e ≢ ObsFault.NoMemory → observables_of_text bytes.now edge_count ≡ Err e) }
+    ensures err { IfErr result (λ e. e ≢ ObsFault.NoMemory
+        → observables_of_text bytes.now edge_count ≡ Err e) }
 {
     let lists = read_lists(alloc, bytes)?;
     if lists.len() > MOST_OBSERVABLES {

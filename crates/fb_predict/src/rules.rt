@@ -55,7 +55,8 @@ pub fn first_repeated(
 ) -> Result<Option<usize>, NoMemory>
     requires few { length lists.now ≤ most_observables }
     requires below { first_where (is_beyond edge_count) 0 (map (λ l. l.items) lists.now) ≡ None }
-    ensures { IfOk result (λ found. found ≡ first_where (repeats []) 0 (map (λ l. l.items) lists.now)) }
+    ensures { IfOk result (λ found.
+        found ≡ first_where (repeats []) 0 (map (λ l. l.items) lists.now)) }
 {
     let mut marks = vec![in alloc; 0; edge_count as usize]?;
     for (i, list) in lists.iter().enumerate() {
