@@ -1,3 +1,4 @@
 pub mod Rests
 pub mod FaultyEntries
 pub mod Beyond
+pub mod Flips

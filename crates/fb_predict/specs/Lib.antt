@@ -1,3 +1,5 @@
 pub mod ObservableText
 pub mod Codings
+pub mod Observing
 pub mod InternalRests
+pub mod InternalHolders

@@ -4,9 +4,14 @@
 mod coded;
 mod entries;
 mod faults;
+mod holders;
+mod observables;
 mod reader;
 mod rules;
+mod writing;
 
 pub use coded::{Coding, write_coded};
 pub use faults::ObsFault;
-pub use reader::{Observables, read_observables};
+pub use observables::Observables;
+pub use reader::read_observables;
+pub use writing::write_bits;

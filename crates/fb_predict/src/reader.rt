@@ -5,26 +5,9 @@ ghost use Rattle.fb_predict.specs.ObservableText.{observables_of_text};
 
 use crate::entries::read_lists;
 use crate::faults::ObsFault;
+use crate::observables::{MOST_OBSERVABLES, Observables};
 use crate::rules::{first_beyond, first_repeated};
 use std::alloc::Global;
-use std::marker::Model;
-
-/// The most observables.
-const MOST_OBSERVABLES: usize = 1024;
-
-/// The edges of each observable. Contracts see the list of them.
-#[derive(Drop)]
-pub struct Observables {
-    lists: Vec<Vec<u64>>,
-}
-
-impl Model for Observables {
-    ghost use Rattle.std.specs.Prelude.{ℕ, List, map};
-
-    ghost Value = { List (List ℕ) };
-
-    ghost view = { λ o. map (λ l. l.items) o.lists.items };
-}
 
 /// The observables of a text over a graph with a number of edges, or the first rule that the text breaks. The text is
 /// one JSON value (RFC 8259): an object whose member `observables` lists the edges of each. Other members are ignored.
@@ -45,8 +28,9 @@ pub fn read_observables(
         return Err(ObsFault::EdgeOutOfRange(i as u64));
     }
     match first_repeated(alloc, edge_count, lists.as_slice()) {
-        Ok(None) => Ok(Observables { lists }),
-        Ok(Some(i)) => Err(ObsFault::EdgeRepeated(i as u64)),
-        Err(_) => Err(ObsFault::NoMemory),
+        Ok(None) => {}
+        Ok(Some(i)) => return Err(ObsFault::EdgeRepeated(i as u64)),
+        Err(_) => return Err(ObsFault::NoMemory),
     }
+    Observables::build(alloc, edge_count, lists).map_err(|_| ObsFault::NoMemory)
 }
