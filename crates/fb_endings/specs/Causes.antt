@@ -4,6 +4,7 @@ use Rattle.fb_report.specs.Texts.{line}
 use Rattle.fb_gen.specs.FaultTexts as sample
 use Rattle.fb_graph_in.specs.FaultTexts as graph
 use Rattle.fb_plan.specs.FaultTexts as plan
+use Rattle.fb_predict.specs.FaultTexts as observables
 use Rattle.fb_shots.specs.FaultTexts as shot
 use Rattle.fb_verify.specs.FaultTexts as report
 use Rattle.fb_endings.specs.declared.ending.Cause.{Cause}
@@ -30,6 +31,7 @@ refusal_name (refusal.Report fault) = report.fault_name fault
 refusal_name (refusal.Shot fault) = shot.kind_name fault.kind
 refusal_name (refusal.Sample fault) = sample.fault_name fault
 refusal_name (refusal.TooFewLayers height) = codes "TooFewLayers"
+refusal_name (refusal.Observables fault) = observables.fault_name fault
 
 abbrev pub refusal_place : Refusal → Option (List ℕ)
 refusal_place (refusal.Graph fault) = graph.fault_place fault
@@ -38,6 +40,7 @@ refusal_place (refusal.Report fault) = report.fault_place fault
 refusal_place (refusal.Shot fault) = Some (codes "shot")
 refusal_place (refusal.Sample fault) = None
 refusal_place (refusal.TooFewLayers height) = None
+refusal_place (refusal.Observables fault) = observables.fault_place fault
 
 abbrev pub refusal_number : Refusal → Option ℕ
 refusal_number (refusal.Graph fault) = graph.fault_number fault
@@ -46,6 +49,7 @@ refusal_number (refusal.Report fault) = report.fault_number fault
 refusal_number (refusal.Shot fault) = Some fault.shot
 refusal_number (refusal.Sample fault) = None
 refusal_number (refusal.TooFewLayers height) = Some height
+refusal_number (refusal.Observables fault) = observables.fault_number fault
 
 -- a word, if there is one
 abbrev pub if_any : Option (List ℕ) → List (List ℕ)

@@ -2,7 +2,7 @@
 use Rattle.std.specs.Prelude.{ℕ, ◌≡◌, ◌<◌, ◌≤◌, ◌⊎◌, List, [], ◌∷◌, ⊤}
 use Rattle.fb_graph.specs.Limits.{DecodingGraph}
 use Rattle.fb_ports.specs.Causes.{Appends, AppendsPrefix, Rose}
-use Rattle.fb_inputs.specs.Judging.{Asks, AsksPrefix, Holds, IsNoGraph, IsNoPlan, IsNoReport, Named}
+use Rattle.fb_inputs.specs.Judging.{AreNoObservables, Asks, AsksPrefix, Holds, IsNoGraph, IsNoPlan, IsNoReport, Named}
 use Rattle.fb_inputs.specs.Moments.{Moment}
 use Rattle.fb_endings.specs.declared.ending.Cause.{Cause}
 use Rattle.fb_endings.specs.declared.ending.Cause.TheVariants.{Done, Odd, Bad, Refused, ReadFault, WriteFault, NoMemory, Usage}
@@ -42,6 +42,7 @@ IsGraphRefusal named name (refusal.Report fault) = ⊥
 IsGraphRefusal named name (refusal.Shot fault) = ⊥
 IsGraphRefusal named name (refusal.Sample fault) = ⊥
 IsGraphRefusal named name (refusal.TooFewLayers height) = ⊥
+IsGraphRefusal named name (refusal.Observables fault) = ⊥
 
 -- the text of the file of the name is no plan of the graph, and the refusal is its fault
 abbrev pub IsPlanRefusal : DecodingGraph → Named → List ℕ → Refusal → Type 0
@@ -51,6 +52,7 @@ IsPlanRefusal g named name (refusal.Report fault) = ⊥
 IsPlanRefusal g named name (refusal.Shot fault) = ⊥
 IsPlanRefusal g named name (refusal.Sample fault) = ⊥
 IsPlanRefusal g named name (refusal.TooFewLayers height) = ⊥
+IsPlanRefusal g named name (refusal.Observables fault) = ⊥
 
 -- the text of the file of the name is no report, and the refusal is its fault
 abbrev pub IsReportRefusal : Named → List ℕ → Refusal → Type 0
@@ -60,6 +62,17 @@ IsReportRefusal named name (refusal.Plan fault) = ⊥
 IsReportRefusal named name (refusal.Shot fault) = ⊥
 IsReportRefusal named name (refusal.Sample fault) = ⊥
 IsReportRefusal named name (refusal.TooFewLayers height) = ⊥
+IsReportRefusal named name (refusal.Observables fault) = ⊥
+
+-- the text of the file of the name is none of observables over so many edges, and the refusal is its fault
+abbrev pub IsObservablesRefusal : ℕ → Named → List ℕ → Refusal → Type 0
+IsObservablesRefusal edge_count named name (refusal.Observables fault) = Holds named name (AreNoObservables edge_count fault)
+IsObservablesRefusal edge_count named name (refusal.Graph fault) = ⊥
+IsObservablesRefusal edge_count named name (refusal.Plan fault) = ⊥
+IsObservablesRefusal edge_count named name (refusal.Report fault) = ⊥
+IsObservablesRefusal edge_count named name (refusal.Shot fault) = ⊥
+IsObservablesRefusal edge_count named name (refusal.Sample fault) = ⊥
+IsObservablesRefusal edge_count named name (refusal.TooFewLayers height) = ⊥
 
 -- the input was read to its end
 abbrev pub IsReadToItsEnd : Cause → Type 0

@@ -98,6 +98,7 @@ TextEnds account source before after (Refused (refusal.Plan fault)) = ⊥
 TextEnds account source before after (Refused (refusal.Report fault)) = ⊥
 TextEnds account source before after (Refused (refusal.Sample fault)) = ⊥
 TextEnds account source before after (Refused (refusal.TooFewLayers height)) = ⊥
+TextEnds account source before after (Refused (refusal.Observables fault)) = ⊥
 TextEnds account source before after (Refused (refusal.Shot fault)) = WritesBefore account source before after fault
 TextEnds account source before after ReadFault =
     (IsReadOutIfNamed before.named after.left × Appends before.written after.written account.head)

@@ -6,6 +6,7 @@ ghost use Rattle.fb_endings.specs.Causes.{status_of};
 use fb_gen::GenFault;
 use fb_graph_in::TextFault;
 use fb_plan::PlanFault;
+use fb_predict::ObsFault;
 use fb_request::UsageKind;
 use fb_shots::ShotFault;
 use fb_verify::ReportFault;
@@ -25,6 +26,8 @@ pub enum Refusal {
     Sample(GenFault),
     /// There is no plan of the graph by its layers: this is how many there are, too few for its units.
     TooFewLayers(u64),
+    /// The text of the observables is none. The fault is never `NoMemory`.
+    Observables(ObsFault),
 }
 
 /// Why a run ended.
@@ -33,7 +36,7 @@ pub enum Cause {
     /// The input was read to its end, and every row has a correction; or every row that is checked is good, and there are
     /// as many as shots.
     Done,
-    /// The input was read to its end, and some shot has no correction.
+    /// The input was read to its end, and some shot, or row of a report, has no correction.
     Odd,
     /// The input was read to its end, and this many rows are bad, or there are more or fewer rows than shots.
     Bad(u64),

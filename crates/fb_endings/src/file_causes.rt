@@ -14,6 +14,7 @@ use fb_graph_in::TextFault;
 use fb_inputs::{FileFault, read_graph_file};
 use fb_plan::PlanFault;
 use fb_ports::Files;
+use fb_predict::ObsFault;
 use fb_verify::ReportFault;
 use std::alloc::Global;
 
@@ -66,6 +67,17 @@ pub fn cause_of_report(fault: FileFault<ReportFault>) -> Cause
 {
     match fault {
         FileFault::Refused(fault) => Cause::Refused(Refusal::Report(fault)),
+        FileFault::ReadFault => Cause::ReadFault,
+        FileFault::NoMemory => Cause::NoMemory,
+    }
+}
+
+/// The cause of a command's end, by the fault of its observables' file.
+pub fn cause_of_observables(fault: FileFault<ObsFault>) -> Cause
+    ensures { result ≡ cause_at_file refusal.Observables fault }
+{
+    match fault {
+        FileFault::Refused(fault) => Cause::Refused(Refusal::Observables(fault)),
         FileFault::ReadFault => Cause::ReadFault,
         FileFault::NoMemory => Cause::NoMemory,
     }

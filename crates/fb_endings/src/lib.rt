@@ -7,5 +7,5 @@ mod file_causes;
 mod saying;
 
 pub use ending::{Cause, Ended, Refusal};
-pub use file_causes::{cause_of_plan, cause_of_report, graph_or_cause};
+pub use file_causes::{cause_of_observables, cause_of_plan, cause_of_report, graph_or_cause};
 pub use saying::say;

@@ -96,6 +96,7 @@ impl Refusal {
             Refusal::Shot(fault) => fault.kind.name(),
             Refusal::Sample(fault) => fault.name(),
             Refusal::TooFewLayers(_) => "TooFewLayers",
+            Refusal::Observables(fault) => fault.name(),
         }
     }
 
@@ -109,6 +110,7 @@ impl Refusal {
             Refusal::Report(fault) => fault.place(),
             Refusal::Shot(_) => Some("shot"),
             Refusal::Sample(_) | Refusal::TooFewLayers(_) => None,
+            Refusal::Observables(fault) => fault.place(),
         }
     }
 
@@ -123,6 +125,7 @@ impl Refusal {
             Refusal::Shot(fault) => Some(u64::from(fault.shot)),
             Refusal::Sample(_) => None,
             Refusal::TooFewLayers(height) => Some(height),
+            Refusal::Observables(fault) => fault.number(),
         }
     }
 }

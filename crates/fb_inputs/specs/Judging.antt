@@ -10,6 +10,8 @@ use Rattle.fb_request.specs.declared.format.Format.{Format}
 use Rattle.fb_plan.specs.Plans.{PlanTree}
 use Rattle.fb_plan.specs.declared.faults.PlanFault.{PlanFault}
 use Rattle.fb_plan_in.specs.PlanText.{plan_of_text}
+use Rattle.fb_predict.specs.ObservableText.{observables_of_text}
+use Rattle.fb_predict.specs.declared.faults.ObsFault.{ObsFault}
 use Rattle.fb_verify.specs.Reports.{report_of_text}
 use Rattle.fb_verify.specs.declared.report_faults.ReportFault.{ReportFault}
 use Rattle.fb_verify.specs.declared.reports.Report.{Report}
@@ -40,6 +42,14 @@ IsPlanText g t text = plan_of_text text g ≡ Ok t
 -- the text is no plan of the graph, for this reason
 abbrev pub IsNoPlan : DecodingGraph → PlanFault → List ℕ → Type 0
 IsNoPlan g fault text = plan_of_text text g ≡ Err fault
+
+-- the text is that of the observables, over a graph with a number of edges
+abbrev pub AreObservables : ℕ → List (List ℕ) → List ℕ → Type 0
+AreObservables edge_count observables text = observables_of_text text edge_count ≡ Ok observables
+
+-- the text is none of observables, for this reason
+abbrev pub AreNoObservables : ℕ → ObsFault → List ℕ → Type 0
+AreNoObservables edge_count fault text = observables_of_text text edge_count ≡ Err fault
 
 -- the text is that of the report
 abbrev pub IsReportText : Report → List ℕ → Type 0

@@ -30,6 +30,7 @@ IsLayersRefusal g units (refusal.Plan fault) = ⊥
 IsLayersRefusal g units (refusal.Report fault) = ⊥
 IsLayersRefusal g units (refusal.Shot fault) = ⊥
 IsLayersRefusal g units (refusal.Sample fault) = ⊥
+IsLayersRefusal g units (refusal.Observables fault) = ⊥
 
 -- How the command ends for a graph: the whole text is written, or a prefix of it and then a fault comes; or nothing is
 -- written, as the layers are too few or memory ran out.

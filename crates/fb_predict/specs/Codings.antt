@@ -1,7 +1,7 @@
 -- The text of some bits in each format that they are written in.
 use Rattle.std.specs.Prelude.{ℕ, Bool, List}
-use Rattle.fb_predict.specs.declared.coded.Coding.{Coding}
-use Rattle.fb_predict.specs.declared.coded.Coding.TheVariants.{Text01, B8, Dets, Hits, R8}
+use Rattle.fb_request.specs.declared.coding.Coding.{Coding}
+use Rattle.fb_request.specs.declared.coding.Coding.TheVariants.{Text01, B8, Dets, Hits, R8}
 use Rattle.fb_shots_stim.specs.CodedShots.{coded_01, coded_b8, coded_dets, coded_hits, coded_r8}
 
 abbrev pub coded : Coding → List Bool → List ℕ

@@ -6,22 +6,8 @@ ghost use Rattle.fb_shots_stim.specs.CodedShots.{coded_01, coded_b8, coded_dets,
 ghost use Rattle.fb_predict.specs.Codings.{coded};
 
 use fb_ports::{Failed, Sink, put_all, put_parts};
+use fb_request::Coding;
 use itoa::Buffer;
-
-/// A format in which bits are written.
-#[derive(Clone, Copy, Debug, PartialEq, Eq)]
-pub enum Coding {
-    /// A byte `0` or `1` for each bit, and a newline.
-    Text01,
-    /// The bits in bytes, the least significant first.
-    B8,
-    /// The word `shot`, a word `L` and place for each bit that is set, and a newline.
-    Dets,
-    /// The places of the bits that are set, with commas between them, and a newline.
-    Hits,
-    /// A byte for each run of zeros.
-    R8,
-}
 
 /// Puts the text of some bits. After [`Failed`] the sink has taken a prefix of it.
 pub fn write_coded<S: Sink>(sink: &mut S, to: Coding, bits: &[bool]) -> Result<(), Failed>

@@ -1,5 +1,8 @@
 //! Why a text has no observables.
 
+ghost use Rattle.std.specs.Prelude.{◌≡◌, option_map};
+ghost use Rattle.fb_predict.specs.FaultTexts.{fault_name, fault_number, fault_place};
+
 use thiserror::Error;
 
 /// Why a text has no observables of a graph. Observables are counted from 0.
@@ -25,4 +28,44 @@ pub enum ObsFault {
     EdgeRepeated(u64),
     #[error("out of memory")]
     NoMemory,
+}
+
+impl ObsFault {
+    /// Its name in the program's output.
+    pub fn name(self) -> &'static str
+        ensures { result.now ≡ fault_name self }
+    {
+        match self {
+            ObsFault::TooLong => "TooLong",
+            ObsFault::NotJson => "ObservablesNotJson",
+            ObsFault::Missing => "ObservablesMissing",
+            ObsFault::NotList | ObsFault::NotWhole(_) => "ObservablesNotWhole",
+            ObsFault::TooMany => "TooManyObservables",
+            ObsFault::EdgeOutOfRange(_) => "ObservableEdgeOutOfRange",
+            ObsFault::EdgeRepeated(_) => "ObservableEdgeRepeated",
+            ObsFault::NoMemory => "NoMemory",
+        }
+    }
+
+    /// The word of its place, if it has one.
+    pub fn place(self) -> Option<&'static str>
+        ensures { option_map (λ s. s.now) result ≡ fault_place self }
+    {
+        match self {
+            ObsFault::TooLong => Some("observables"),
+            _ => None,
+        }
+    }
+
+    /// The number of an observable, if its place has one.
+    pub fn number(self) -> Option<u64>
+        ensures { result ≡ fault_number self }
+    {
+        match self {
+            ObsFault::NotWhole(i) => Some(i),
+            ObsFault::EdgeOutOfRange(i) => Some(i),
+            ObsFault::EdgeRepeated(i) => Some(i),
+            _ => None,
+        }
+    }
 }

@@ -10,7 +10,7 @@ mod reader;
 mod rules;
 mod writing;
 
-pub use coded::{Coding, write_coded};
+pub use coded::write_coded;
 pub use faults::ObsFault;
 pub use observables::Observables;
 pub use reader::read_observables;

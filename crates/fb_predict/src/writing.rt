@@ -5,10 +5,11 @@ ghost use Rattle.fb_ports.specs.Causes.{Appends, AppendsPrefix, HasCause};
 ghost use Rattle.fb_predict.specs.Codings.{coded};
 ghost use Rattle.fb_predict.specs.Observing.{observed_bits};
 
-use crate::coded::{Coding, write_coded};
+use crate::coded::write_coded;
 use crate::observables::{MOST_OBSERVABLES, Observables};
 use fb_graph::Row;
 use fb_ports::{Failed, Sink};
+use fb_request::Coding;
 
 /// Puts the text of the bits of the observables that a row flips. It takes no memory. After [`Failed`] the sink has
 /// taken a prefix of the text.

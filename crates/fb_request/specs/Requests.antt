@@ -2,6 +2,7 @@
 use Rattle.std.specs.Prelude.{ℕ, Bool, List, Option, ⊤}
 use Rattle.fb_request.specs.Ranges.{IsWithin}
 use Rattle.fb_request.specs.Ranges as ranges
+use Rattle.fb_request.specs.declared.coding.Coding.{Coding}
 use Rattle.fb_request.specs.declared.format.Format.{Format}
 
 -- What `decode` asks for: the names of the graph, of the plan if one is given, and of the shots, and their format; how
@@ -39,12 +40,20 @@ pub record Planning : Type 0 where
   pub graph : List ℕ
   pub units : ℕ
 
+-- what `predict` asks for: the names of the graph, of the observables and of the report, and the format of the bits
+pub record Predicting : Type 0 where
+  pub graph : List ℕ
+  pub observables : List ℕ
+  pub report : List ℕ
+  pub to : Coding
+
 -- what a command line asks for
 pub data Request : Type 0 where
   decode : Decoding → Request
   check : Checking → Request
   sample : Sampling → Request
   plan : Planning → Request
+  predict : Predicting → Request
 
 -- the numbers are in the ranges of their options
 pub record IsSampleInRanges (s : Sampling) : Type 0 where
@@ -62,3 +71,4 @@ IsInRanges (decode d) = IsWithin ranges.workers d.workers × IsWithin ranges.win
 IsInRanges (check c) = ⊤
 IsInRanges (sample s) = IsSampleInRanges s
 IsInRanges (plan p) = IsWithin ranges.units p.units
+IsInRanges (predict p) = ⊤

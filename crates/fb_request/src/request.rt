@@ -1,5 +1,6 @@
 //! The requests of the commands.
 
+use crate::coding::Coding;
 use crate::format::Format;
 
 /// What a command line asks for.
@@ -9,6 +10,7 @@ pub enum Request<'a> {
     Check(Checking<'a>),
     Sample(Sampling),
     Plan(Planning<'a>),
+    Predict(Predicting<'a>),
 }
 
 /// Shots to decode: the names of the graph, of the plan if one is given, and of the shots, `-` for standard input; how
@@ -61,4 +63,14 @@ pub struct Planning<'a> {
     pub graph: &'a str,
     /// The units of the plan, 1 to 4,096.
     pub units: u32,
+}
+
+/// Flips of observables to predict by the rows of a report: the names of the graph, of the observables and of the report,
+/// `-` for standard input, and the format that the bits of each row are written in.
+#[derive(Clone, Copy)]
+pub struct Predicting<'a> {
+    pub graph: &'a str,
+    pub observables: &'a str,
+    pub report: &'a str,
+    pub to: Coding,
 }

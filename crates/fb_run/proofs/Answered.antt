@@ -11,7 +11,7 @@ use Rattle.fb_inputs.specs.Judging.{Named}
 use Rattle.fb_run.specs.RunEndings.{EndsRight, RequestEnds, HasReadOut, ReadsOut}
 use Rattle.fb_run.specs.InternalCauses.{cause_of_words}
 use Rattle.fb_words.specs.Faults.{IsFaultOf, usage_of}
-use Rattle.fb_request.specs.Requests.{Decoding, Request, check, decode, plan, sample}
+use Rattle.fb_request.specs.Requests.{Decoding, Request, check, decode, plan, predict, sample}
 use Rattle.fb_endings.specs.declared.ending.Cause.{Cause}
 use Rattle.fb_endings.specs.declared.ending.Cause.TheVariants.{Bad, Done, NoMemory, Odd, ReadFault, Refused, Usage, WriteFault}
 use Rattle.fb_request.specs.declared.usage.UsageKind.{UsageKind}
@@ -56,6 +56,11 @@ never_usage (check checking) before after kind (inr with_graph) = elim with_grap
 never_usage (sample sampling) before after kind ends = ends.2
 never_usage (plan planning) before after kind (inl none) = none
 never_usage (plan planning) before after kind (inr with_graph) = with_graph.ends
+never_usage (predict predicting) before after kind (inl none) = none
+never_usage (predict predicting) before after kind (inr with_graph) = elim with_graph.ends [
+  | inl none ↦ none
+  | inr with_observables ↦ elim with_observables.ends [ | inl none ↦ none | inr with_report ↦ with_report.ends ]
+]
 
 pub request_not_usage : (request : Request) (before after : Moment) (cause : Cause) (kind : UsageKind) → RequestEnds request before after cause → cause ≢ Usage kind
 request_not_usage request before after cause kind ends e = never_usage request before after kind (subst (RequestEnds request before after) e ends)
@@ -83,6 +88,7 @@ never_out (Ok (decode decoding)) f named left = λ reads. absurd (not_to_end f r
 never_out (Ok (check checking)) f named left = λ reads. absurd (not_to_end f reads)
 never_out (Ok (sample sampling)) f named left = tt
 never_out (Ok (plan planning)) f named left = tt
+never_out (Ok (predict predicting)) f named left = tt
 never_out (Err kind) f named left = tt
 
 -- a command line that is refused does nothing
@@ -98,6 +104,7 @@ ends_refused (Ok (decode decoding)) fault.NoMemory m e = inl (asks_none m.asked 
 ends_refused (Ok (check checking)) fault.NoMemory m e = inl (asks_none m.asked m.asked (checking.graph ∷ []) refl, refl, Appends-nil m.written)
 ends_refused (Ok (sample sampling)) fault.NoMemory m e = (asks_same m.asked m.asked refl, refl, Appends-nil m.written)
 ends_refused (Ok (plan planning)) fault.NoMemory m e = inl (asks_none m.asked m.asked (planning.graph ∷ []) refl, refl, Appends-nil m.written)
+ends_refused (Ok (predict predicting)) fault.NoMemory m e = inl (asks_none m.asked m.asked (predicting.graph ∷ []) refl, refl, Appends-nil m.written)
 ends_refused (Err kind) fault.NoMemory m e = (inr refl, asks_same m.asked m.asked refl, refl, Appends-nil m.written)
 
 -- a sink fails only in a run that says so

@@ -4,11 +4,12 @@ use Rattle.fb_ports.specs.Causes.{Appends}
 use Rattle.fb_check.specs.CheckEndings.{CheckEnds}
 use Rattle.fb_endings.specs.Ends.{IsReadToItsEnd}
 use Rattle.fb_planning.specs.PlanEndings.{PlanEnds}
+use Rattle.fb_predicting.specs.PredictEndings.{PredictEnds}
 use Rattle.fb_run.specs.Endings.{DecodeEnds}
 use Rattle.fb_run.specs.SampleEndings.{SampleEnds}
 use Rattle.fb_inputs.specs.Judging.{Asks, IsReadOutIfNamed, Named}
 use Rattle.fb_inputs.specs.Moments.{Moment}
-use Rattle.fb_request.specs.Requests.{Request, check, decode, plan, sample}
+use Rattle.fb_request.specs.Requests.{Request, check, decode, plan, predict, sample}
 use Rattle.fb_endings.specs.declared.ending.Cause.{Cause}
 use Rattle.fb_endings.specs.declared.ending.Cause.TheVariants.{NoMemory, Usage}
 use Rattle.fb_request.specs.declared.usage.UsageKind.{UsageKind}
@@ -21,6 +22,7 @@ RequestEnds (sample sampling) before after cause =
     Asks before.asked after.asked [] × (after.faults ≡ before.faults)
     × SampleEnds sampling before.written after.written cause
 RequestEnds (plan planning) before after cause = PlanEnds planning before after cause
+RequestEnds (predict predicting) before after cause = PredictEnds predicting before after cause
 
 -- a command that reads shots has read its input to its end, if its cause says so
 abbrev pub ReadsOut : Request → Named → Option (List ℕ) → Cause → Type 0
@@ -28,6 +30,7 @@ ReadsOut (decode decoding) named left cause = IsReadToItsEnd cause → IsReadOut
 ReadsOut (check checking) named left cause = IsReadToItsEnd cause → IsReadOutIfNamed named left
 ReadsOut (sample sampling) named left cause = ⊤
 ReadsOut (plan planning) named left cause = ⊤
+ReadsOut (predict predicting) named left cause = ⊤
 
 -- the same of a command line, if it is valid
 abbrev pub HasReadOut : Result Request UsageKind → Named → Option (List ℕ) → Cause → Type 0

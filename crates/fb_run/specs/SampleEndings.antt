@@ -37,6 +37,7 @@ IsSampleRefusal s (refusal.Plan fault) = ⊥
 IsSampleRefusal s (refusal.Report fault) = ⊥
 IsSampleRefusal s (refusal.Shot fault) = ⊥
 IsSampleRefusal s (refusal.TooFewLayers height) = ⊥
+IsSampleRefusal s (refusal.Observables fault) = ⊥
 
 -- How a sample ends: its whole text is written, or a prefix of it and then a fault comes; or nothing is written.
 abbrev pub SampleEnds : Sampling → (old new : Option (List ℕ)) → Cause → Type 0

@@ -19,6 +19,7 @@ use fb_crew::Gate;
 use fb_endings::{Cause, Ended, say};
 use fb_planning::plan;
 use fb_ports::{Files, Sink, put_all};
+use fb_predicting::predict;
 use fb_request::{Request, UsageKind};
 use fb_words::{WordsFault, read_words};
 use std::alloc::Global;
@@ -117,6 +118,7 @@ fn run_request<F: Files, O: Sink, G: Gate, R: Threads + Sync>(
         Request::Check(checking) => check(alloc, checking, files, out),
         Request::Sample(sampling) => sample(rt, alloc, sampling, out, gate),
         Request::Plan(planning) => plan(alloc, planning, files, out),
+        Request::Predict(predicting) => predict(alloc, predicting, files, out),
     }
 }
 

@@ -344,7 +344,10 @@ fusion_have_options = (
       sample_has_options,
       (
         plan_has_options,
-        ((λ words none. (λ e. absurd (false≢true e), λ e. absurd (false≢true e), λ e. absurd (false≢true e))), tt),
+        (
+          (λ words none. (λ e. absurd (false≢true e), λ e. absurd (false≢true e), λ e. absurd (false≢true e))),
+          ((λ words none. (λ e. absurd (false≢true e), λ e. absurd (false≢true e), λ e. absurd (false≢true e))), tt),
+        ),
       ),
     ),
   ),

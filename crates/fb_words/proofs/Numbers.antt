@@ -7,14 +7,13 @@ use Rattle.clap.specs.Matches.{ReadsOne}
 use Rattle.clap.specs.Words.{Row, Text, first_of, one_of, one_text, rows_of}
 use Rattle.clap.specs.declared.parser.matches.Found.{Found}
 use Rattle.clap.proofs.WalkLemmas.{one_text-rows}
-use Rattle.fb_request.specs.declared.format.Format.{Format}
 use Rattle.fb_request.specs.declared.usage.UsageKind.{UsageKind}
 use Rattle.fb_request.specs.declared.usage.UsageKind.TheVariants as usage
 use Rattle.fb_words.specs.InternalOptions.{HasDecodeOptions, HasOptions, HasPlanOptions, HasSampleOptions, HasNumber, HasNumberIfGiven, WritesBelow, WritesWithin}
 use Rattle.fb_request.specs.Ranges.{IsWithin, Range}
 use Rattle.fb_request.specs.Ranges as ranges
-use Rattle.fb_request.specs.Requests.{Request, IsInRanges, IsSampleInRanges, check, decode, plan, sample}
-use Rattle.fb_words.specs.Words.{accepted_format, checking_of, command_request, decoding_of, request_with, format_of, given_number, number_in, number_of, option_of, planning_of, sampling_of, trace_of, window_of, workers_of}
+use Rattle.fb_request.specs.Requests.{Request, IsInRanges, IsSampleInRanges, check, decode, plan, predict, sample}
+use Rattle.fb_words.specs.Words.{accepted_format, checking_of, coding_of, command_request, decoding_of, request_with, format_of, given_number, number_in, number_of, option_of, planning_of, predicting_of, sampling_of, trace_of, window_of, workers_of}
 
 -- ---- what a getter returns
 
@@ -88,8 +87,8 @@ in_result P d e same holds =
 
 -- ---- what a command asks for is in the ranges of its options
 
-accepted_in_ranges : (request : Format → Request) (format : Result Format UsageKind) (e : Request)
-    → ((f : Format) → IsInRanges (request f)) → request_with format request ≡ Ok e → IsInRanges e
+accepted_in_ranges : {F : Type 0} (request : F → Request) (format : Result F UsageKind) (e : Request)
+    → ((f : F) → IsInRanges (request f)) → request_with format request ≡ Ok e → IsInRanges e
 accepted_in_ranges request (Ok format) e within same = in_result IsInRanges _ e same (within format)
 accepted_in_ranges request (Err kind) e within same = cc
 
@@ -120,6 +119,14 @@ checking_in_ranges options e same =
     accepted_in_ranges (λ format. check (record { graph = graph; shots = shots; format = format; report = report }))
     (accepted_format (format_of (option_of (codes "format") options)) (graph ∷ shots ∷ report ∷ [])) e (λ format. tt) same
 
+predicting_in_ranges : (options : List Row) (e : Request) → predicting_of options ≡ Ok e → IsInRanges e
+predicting_in_ranges options e same =
+    let graph = option_of (codes "graph") options in
+    let observables = option_of (codes "observables") options in
+    let report = option_of (codes "report") options in
+    accepted_in_ranges (λ to. predict (record { graph = graph; observables = observables; report = report; to = to }))
+    (accepted_format (coding_of (option_of (codes "to") options)) (graph ∷ observables ∷ report ∷ [])) e (λ to. tt) same
+
 sampling_in_ranges : (options : List Row) → HasSampleOptions options → IsSampleInRanges (sampling_of options)
 sampling_in_ranges options has = record {
   distance = given_within (codes "distance") ranges.distances options has.distance;
@@ -136,17 +143,19 @@ pub request_in_ranges : (command : Option (Text × List Row)) (e : Request) → 
 request_in_ranges None e has same = cc
 request_in_ranges (Some command) e has same =
     go (bytes_eq command.0 (codes "decode")) (bytes_eq command.0 (codes "check")) (bytes_eq command.0 (codes "sample"))
-    (bytes_eq command.0 (codes "plan")) has same
+    (bytes_eq command.0 (codes "plan")) (bytes_eq command.0 (codes "predict")) has same
   where
-    go : (decodes checks samples plans : Bool)
+    go : (decodes checks samples plans predicts : Bool)
         → (decodes ≡ true → HasDecodeOptions command.1) × (samples ≡ true → HasSampleOptions command.1)
         × (plans ≡ true → HasPlanOptions command.1)
         → cond decodes (decoding_of command.1) (cond checks (checking_of command.1)
-        (cond samples (Ok (sample (sampling_of command.1))) (cond plans (Ok (plan (planning_of command.1))) (Err usage.Parse)))) ≡ Ok e
+        (cond samples (Ok (sample (sampling_of command.1))) (cond plans (Ok (plan (planning_of command.1)))
+        (cond predicts (predicting_of command.1) (Err usage.Parse))))) ≡ Ok e
         → IsInRanges e
-    go true checks samples plans has same = decoding_in_ranges command.1 e (has.0 refl) same
-    go false true samples plans has same = checking_in_ranges command.1 e same
-    go false false true plans has same = in_result IsInRanges _ e same (sampling_in_ranges command.1 (has.1 refl))
-    go false false false true has same =
+    go true checks samples plans predicts has same = decoding_in_ranges command.1 e (has.0 refl) same
+    go false true samples plans predicts has same = checking_in_ranges command.1 e same
+    go false false true plans predicts has same = in_result IsInRanges _ e same (sampling_in_ranges command.1 (has.1 refl))
+    go false false false true predicts has same =
         in_result IsInRanges _ e same (given_within (codes "units") ranges.units command.1 (has.2 refl).units)
-    go false false false false has same = cc
+    go false false false false true has same = predicting_in_ranges command.1 e same
+    go false false false false false has same = cc

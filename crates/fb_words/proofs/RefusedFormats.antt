@@ -1,6 +1,5 @@
 -- A request whose format is refused.
 use Rattle.std.proofs.Common.{refl, Result}
-use Rattle.fb_request.specs.declared.format.Format.{Format}
 use Rattle.fb_words.specs.Faults.{IsFaultOf}
 use Rattle.fb_request.specs.Requests.{Request}
 use Rattle.fb_words.specs.Words.{request_with}
@@ -9,7 +8,7 @@ use Rattle.fb_words.specs.declared.words.WordsFault.{WordsFault}
 use Rattle.fb_words.specs.declared.words.WordsFault.TheVariants as fault
 
 -- the format is why
-pub refused_with : (accepted : Result Format UsageKind) (request : Format → Request) (f : WordsFault) → IsFaultOf accepted f
+pub refused_with : {F : Type 0} (accepted : Result F UsageKind) (request : F → Request) (f : WordsFault) → IsFaultOf accepted f
     → IsFaultOf (request_with accepted request) f
 refused_with accepted request (fault.Parse text) is = rw is refl
 refused_with accepted request fault.Format is = rw is refl

@@ -63,10 +63,16 @@ abbrev pub plan_app : App
 plan_app = with_rule (with_rule (new_app (codes "plan")) (option_rule (codes "graph")))
     (required_number_rule (codes "units") units)
 
+abbrev pub predict_app : App
+predict_app =
+    with_rule (with_rule (with_rule (with_rule (new_app (codes "predict"))
+    (option_rule (codes "graph"))) (option_rule (codes "observables"))) (option_rule (codes "report")))
+    (option_rule (codes "to"))
+
 abbrev pub plain_app : App
 plain_app =
-    with_subcommand (with_subcommand (with_subcommand (with_subcommand (new_app (codes "fusion"))
-    decode_app.top) check_app.top) sample_app.top) plan_app.top
+    with_subcommand (with_subcommand (with_subcommand (with_subcommand (with_subcommand (new_app (codes "fusion"))
+    decode_app.top) check_app.top) sample_app.top) plan_app.top) predict_app.top
 
 -- the whole command line: one command, and its options
 unfoldable pub fusion_app : App

@@ -5,7 +5,9 @@ use Rattle.std.specs.Str.Parse.{digits_value, without_leading_plus}
 use Rattle.clap.specs.Kinds.{Kinds}
 use Rattle.clap.specs.Words.{Row, Text, fault_of, first_of, one_of, subcommand_of}
 use Rattle.fb_words.specs.Command.{fusion_app}
-use Rattle.fb_request.specs.Requests.{Planning, Request, Sampling, check, decode, plan, sample}
+use Rattle.fb_request.specs.Requests.{Planning, Request, Sampling, check, decode, plan, predict, sample}
+use Rattle.fb_request.specs.declared.coding.Coding.{Coding}
+use Rattle.fb_request.specs.declared.coding.Coding.TheVariants as coding
 use Rattle.fb_request.specs.declared.format.Format.{Format}
 use Rattle.fb_request.specs.declared.format.Format.TheVariants.{Text01, B8, Dets, Hits, R8, Json}
 use Rattle.fb_request.specs.declared.usage.UsageKind.{UsageKind}
@@ -21,6 +23,15 @@ format_of word =
     else (if bytes_eq word (codes "r8") then Some R8
     else (if bytes_eq word (codes "json") then Some Json else None)))))
 
+-- the format of bits that a word names
+abbrev pub coding_of : Text → Option Coding
+coding_of word =
+    if bytes_eq word (codes "01") then Some coding.Text01
+    else (if bytes_eq word (codes "b8") then Some coding.B8
+    else (if bytes_eq word (codes "dets") then Some coding.Dets
+    else (if bytes_eq word (codes "hits") then Some coding.Hits
+    else (if bytes_eq word (codes "r8") then Some coding.R8 else None))))
+
 -- the name of standard input
 abbrev pub is_standard_input : Text → Bool
 is_standard_input name = bytes_eq name (codes "-")
@@ -30,12 +41,12 @@ abbrev pub has_two_inputs : List Text → Bool
 has_two_inputs names = nat_lt 1 (count_by is_standard_input names)
 
 -- the format, if it is one and at most one of these inputs is standard input
-abbrev pub accepted_format : Option Format → List Text → Result Format UsageKind
+abbrev pub accepted_format : {F : Type 0} → Option F → List Text → Result F UsageKind
 accepted_format None names = Err usage.Format
 accepted_format (Some format) names = if has_two_inputs names then Err usage.TwoInputs else Ok format
 
 -- the request of a format that is accepted
-abbrev pub request_with : Result Format UsageKind → (Format → Request) → Result Request UsageKind
+abbrev pub request_with : {F : Type 0} → Result F UsageKind → (F → Request) → Result Request UsageKind
 request_with (Ok format) request = Ok (request format)
 request_with (Err kind) request = Err kind
 
@@ -108,10 +119,19 @@ sampling_of options = record {
 abbrev pub planning_of : List Row → Planning
 planning_of options = record { graph = option_of (codes "graph") options; units = given_number (codes "units") options }
 
+-- the request of `predict` with these options
+abbrev pub predicting_of : List Row → Result Request UsageKind
+predicting_of options =
+    let graph = option_of (codes "graph") options in
+    let observables = option_of (codes "observables") options in
+    let report = option_of (codes "report") options in
+    request_with (accepted_format (coding_of (option_of (codes "to") options)) (graph ∷ observables ∷ report ∷ []))
+    (λ to. predict (record { graph = graph; observables = observables; report = report; to = to }))
+
 abbrev pub is_command_name : Text → Bool
 is_command_name name =
     bytes_eq name (codes "decode") || (bytes_eq name (codes "check")
-    || (bytes_eq name (codes "sample") || bytes_eq name (codes "plan")))
+    || (bytes_eq name (codes "sample") || (bytes_eq name (codes "plan") || bytes_eq name (codes "predict"))))
 
 -- a command was named
 abbrev pub is_command : Option (Text × List Row) → Bool
@@ -125,7 +145,8 @@ command_request (Some command) =
     if bytes_eq command.0 (codes "decode") then decoding_of command.1
     else (if bytes_eq command.0 (codes "check") then checking_of command.1
     else (if bytes_eq command.0 (codes "sample") then Ok (sample (sampling_of command.1))
-    else (if bytes_eq command.0 (codes "plan") then Ok (plan (planning_of command.1)) else Err usage.Parse)))
+    else (if bytes_eq command.0 (codes "plan") then Ok (plan (planning_of command.1))
+    else (if bytes_eq command.0 (codes "predict") then predicting_of command.1 else Err usage.Parse))))
 
 -- the request of a command, if clap finds no fault in the words
 abbrev pub request_unless : Kinds → Option (Text × List Row) → Result Request UsageKind
@@ -133,6 +154,6 @@ request_unless [] command = command_request command
 request_unless (fault ∷ faults) command = Err usage.Parse
 
 -- What the words ask for, or what is wrong with them, whichever is first: clap doesn't take them, or they ask it for
--- help or the version; `--format` is none of the six; more than one name is that of standard input.
+-- help or the version; `--format` is none of the six, or `--to` none of the five; more than one name is that of standard input.
 abbrev pub request_of : List Text → Result Request UsageKind
 request_of words = request_unless (fault_of fusion_app words) (subcommand_of fusion_app words)

@@ -2,7 +2,7 @@
 
 ghost use Rattle.std.specs.Prelude.{◌≡◌, IfOk, Ok, codes};
 ghost use Rattle.clap.specs.Words.{App, app_of, new_app, with_subcommand};
-ghost use Rattle.fb_words.specs.Command.{check_app, decode_app, flag_rule, free_rule, fusion_app, number_rule, option_rule, plan_app, required_number_rule, sample_app};
+ghost use Rattle.fb_words.specs.Command.{check_app, decode_app, flag_rule, free_rule, fusion_app, number_rule, option_rule, plan_app, predict_app, required_number_rule, sample_app};
 ghost use Rattle.fb_words.specs.InternalCommands.{AreOptions, IsCommand, IsOption, bare_app};
 ghost use Rattle.fb_request.specs.Ranges.{Range};
 ghost use Rattle.fb_request.specs.Ranges as ranges;
@@ -47,7 +47,8 @@ pub fn fusion<'a>(alloc: Global) -> Result<Command<'a>, AllocError>
     let program = with_command(program(alloc), decode(alloc));
     let program = with_command(program, check(alloc));
     let program = with_command(program, sample(alloc));
-    with_command(program, planning(alloc))
+    let program = with_command(program, planning(alloc));
+    with_command(program, predicting(alloc))
 }
 
 /// The program with one command more, if there was enough memory to make both.
@@ -136,6 +137,20 @@ fn planning<'a>(alloc: Global) -> Result<Command<'a>, AllocError>
     command.args(options)
 }
 
+/// The command `predict`.
+fn predicting<'a>(alloc: Global) -> Result<Command<'a>, AllocError>
+    ensures { IfOk result (IsCommand predict_app) }
+{
+    let options = predicting_options(alloc)?;
+    let command = command(
+        alloc,
+        "predict",
+        "Write the observables that the corrections of a report flip",
+        help::PREDICT,
+    );
+    command.args(options)
+}
+
 /// The options of `decode`.
 fn decode_options<'a>(alloc: Global) -> Result<Vec<Arg<'a>>, AllocError>
     ensures { IfOk result (λ options. AreOptions decode_app.top.rules options.items) }
@@ -182,6 +197,14 @@ fn planning_options<'a>(alloc: Global) -> Result<Vec<Arg<'a>>, AllocError>
     ensures { IfOk result (λ options. AreOptions plan_app.top.rules options.items) }
 {
     let options = [graph(alloc), graph_units(alloc)];
+    list_of(alloc, options)
+}
+
+/// The options of `predict`.
+fn predicting_options<'a>(alloc: Global) -> Result<Vec<Arg<'a>>, AllocError>
+    ensures { IfOk result (λ options. AreOptions predict_app.top.rules options.items) }
+{
+    let options = [graph(alloc), observables(alloc), report(alloc), to(alloc)];
     list_of(alloc, options)
 }
 
@@ -260,7 +283,33 @@ fn report<'a>(alloc: Global) -> Arg<'a>
         alloc,
         "report",
         "NAME",
-        "The report to check, at most 1073741824 bytes: as `decode` writes it",
+        "The report, at most 1073741824 bytes: as `decode` writes it",
+    )
+    .required(true)
+}
+
+/// The option for the observables.
+fn observables<'a>(alloc: Global) -> Arg<'a>
+    ensures { IsOption (option_rule (codes "observables")) result }
+{
+    option(
+        alloc,
+        "observables",
+        "NAME",
+        "The observables, at most 1024: the edges of each, in JSON",
+    )
+    .required(true)
+}
+
+/// The option for the form of the predictions.
+fn to<'a>(alloc: Global) -> Arg<'a>
+    ensures { IsOption (option_rule (codes "to")) result }
+{
+    option(
+        alloc,
+        "to",
+        "FORMAT",
+        "How the predictions are written: 01, b8, dets, hits or r8 of Stim",
     )
     .required(true)
 }

@@ -9,7 +9,7 @@ Example:
 
 Exit status:
   0  the command came to its end, and all is well
-  1  decode: some shot has no correction; check: some row is bad, or there are more or fewer rows than shots
+  1  decode, predict: some shot has no correction; check: some row is bad, or there are more or fewer rows than shots
   2  an input is refused: standard error has the name of the rule that it breaks, and the place
   3  a file can't be opened or read
   4  standard output can't be written
@@ -68,6 +68,25 @@ Example:
 Exit status:
   0  the plan is written
   2  the graph is refused, or has too few layers: standard error has the rule that it breaks, and the place
+  3  a file can't be opened or read
+  4  standard output can't be written
+  5  memory ran out
+  6  the command line is invalid, or asks for help";
+
+/// Of `predict`.
+pub(crate) const PREDICT: &str = "\
+NAME is a file, or `-` for standard input. At most one NAME may be `-`.
+
+A record of bits for each row goes to standard output, once the whole report is read: a bit for each observable, set if an
+odd number of the row's edges are in it. A row without a correction sets none. No row is judged: use `check` first.
+
+Example:
+  fusion predict --graph examples/line/graph.json --observables examples/line/observables.json --report examples/line/report.txt --to 01
+
+Exit status:
+  0  every row has a correction
+  1  some row has none: it is `odd`
+  2  the graph, the observables or the report is refused: standard error has the rule that it breaks, and the place
   3  a file can't be opened or read
   4  standard output can't be written
   5  memory ran out

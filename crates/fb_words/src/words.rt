@@ -9,12 +9,12 @@ ghost use Rattle.fb_request.specs.Ranges as ranges;
 ghost use Rattle.fb_words.specs.Faults.{IsFaultOf, usage_of};
 ghost use Rattle.fb_request.specs.PlainRequests.{plain_planning, plain_request, plain_sampling};
 ghost use Rattle.fb_request.specs.Requests.{IsInRanges};
-ghost use Rattle.fb_words.specs.Words.{accepted_format, checking_of, command_request, decoding_of, request_of, format_of, has_two_inputs, is_command, number_of, option_of, planning_of, sampling_of, trace_of, window_of, workers_of};
+ghost use Rattle.fb_words.specs.Words.{accepted_format, checking_of, coding_of, command_request, decoding_of, request_of, format_of, has_two_inputs, is_command, number_of, option_of, planning_of, predicting_of, sampling_of, trace_of, window_of, workers_of};
 
 use crate::command::fusion;
 use clap::ArgMatches;
 use clap::error::{Error, ErrorKind};
-use fb_request::{Checking, Decoding, Format, Planning, Request, Sampling};
+use fb_request::{Checking, Coding, Decoding, Format, Planning, Predicting, Request, Sampling};
 use std::alloc::Global;
 
 /// Why a command line is refused.
@@ -22,7 +22,7 @@ use std::alloc::Global;
 pub enum WordsFault {
     /// They are no command with its options, or they ask for help or the version. The text is for the user, of whole lines.
     Parse(String),
-    /// `--format` is none of the six.
+    /// `--format` is none of the six, or `--to` none of the five.
     Format,
     /// More than one name is that of standard input.
     TwoInputs,
@@ -78,6 +78,7 @@ fn read_request<'a>(matches: &ArgMatches<'a>) -> Result<Request<'a>, WordsFault>
         Some(("check", options)) => read_checking(options),
         Some(("sample", options)) => Ok(Request::Sample(read_sampling(options))),
         Some(("plan", options)) => Ok(Request::Plan(read_planning(options))),
+        Some(("predict", options)) => read_predicting(options),
         _ => unreachable!(),
     }
 }
@@ -155,6 +156,41 @@ fn read_planning<'a>(options: &ArgMatches<'a>) -> Planning<'a>
     }
 }
 
+/// The request of the command `predict` with these options.
+fn read_predicting<'a>(options: &ArgMatches<'a>) -> Result<Request<'a>, WordsFault>
+    ensures request { IfOk result (λ e. predicting_of (rows_of (found_of options.now)) ≡ Ok (plain_request e)) }
+    ensures fault { IfErr result (IsFaultOf (predicting_of (rows_of (found_of options.now)))) }
+    ensures parsed { IfErr result (λ f. usage_of f ≢ Some UsageKind.Parse) }
+{
+    let graph = option(options, "graph");
+    let observables = option(options, "observables");
+    let report = option(options, "report");
+    match accepted_coding(option(options, "to"), &[graph, observables, report]) {
+        Ok(to) => Ok(Request::Predict(Predicting {
+            graph,
+            observables,
+            report,
+            to,
+        })),
+        Err(fault) => Err(fault),
+    }
+}
+
+/// The format of bits that a word names, or why a command that reads inputs of these names is refused.
+fn accepted_coding(word: &str, names: &[&str]) -> Result<Coding, WordsFault>
+    ensures format { IfOk result (λ f. accepted_format (coding_of word.now) (map (λ name. name.now) names.now) ≡ Ok f) }
+    ensures fault { IfErr result (IsFaultOf (accepted_format (coding_of word.now) (map (λ name. name.now) names.now))) }
+    ensures parsed { IfErr result (λ f. usage_of f ≢ Some UsageKind.Parse) }
+{
+    let Some(to) = coding_of(word) else {
+        return Err(WordsFault::Format);
+    };
+    if has_two_inputs(names) {
+        return Err(WordsFault::TwoInputs);
+    }
+    Ok(to)
+}
+
 /// The format that a word names, or why a command that reads inputs of these names is refused.
 fn accepted_format(word: &str, names: &[&str]) -> Result<Format, WordsFault>
     ensures format { IfOk result (λ f. accepted_format (format_of word.now) (map (λ name. name.now) names.now) ≡ Ok f) }
@@ -228,6 +264,20 @@ fn format_of(word: &str) -> Option<Format>
         "hits" => Some(Format::Hits),
         "r8" => Some(Format::R8),
         "json" => Some(Format::Json),
+        _ => None,
+    }
+}
+
+/// The format of bits that a word names.
+fn coding_of(word: &str) -> Option<Coding>
+    ensures { result ≡ coding_of word.now }
+{
+    match word {
+        "01" => Some(Coding::Text01),
+        "b8" => Some(Coding::B8),
+        "dets" => Some(Coding::Dets),
+        "hits" => Some(Coding::Hits),
+        "r8" => Some(Coding::R8),
         _ => None,
     }
 }

@@ -1,0 +1,8 @@
+//! The command `predict`: the observables that the rows of a report flip.
+
+#![tactic(auto)]
+
+mod predicting;
+mod rows;
+
+pub use predicting::predict;
