@@ -59,7 +59,7 @@ never_usage (plan planning) before after kind (inr with_graph) = with_graph.ends
 never_usage (predict predicting) before after kind (inl none) = none
 never_usage (predict predicting) before after kind (inr with_graph) = elim with_graph.ends [
   | inl none ↦ none
-  | inr with_observables ↦ elim with_observables.ends [ | inl none ↦ none | inr with_report ↦ with_report.ends ]
+  | inr with_observables ↦ elim with_observables.ends [ inl none ↦ none | inr with_report ↦ with_report.ends ]
 ]
 
 pub request_not_usage : (request : Request) (before after : Moment) (cause : Cause) (kind : UsageKind) → RequestEnds request before after cause → cause ≢ Usage kind

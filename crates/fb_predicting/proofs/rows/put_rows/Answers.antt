@@ -1,11 +1,9 @@
-use Rattle.std.proofs.Common.{◌∙◌, ◌≡◌, ◌++◌, [], List, ℕ, refl, ap, sym, subst}
-use Rattle.fb_inputs.specs.Outboxes.{Pending}
+use Rattle.std.proofs.Common.{◌∙◌, ◌++◌, refl, ap}
 use Rattle.fb_predict.specs.Codings.{coded}
-use Rattle.fb_predict.specs.InternalRests.{HasTaken}
 use Rattle.fb_predict.specs.Observing.{observed_bits}
 use Rattle.fb_predict.proofs.Rests.{taken_none}
 use Rattle.fb_predicting.specs.Predictions.{predictions}
-use Rattle.fb_predicting.proofs.Waiting.{row_moved, row_stopped, rows_written, rows_stopped, waiting}
+use Rattle.fb_predicting.proofs.Waiting.{row_moved, row_stopped, rows_written, rows_stopped}
 use Rattle.fb_predicting.proofs.rows.put_rows.Goals as goal
 
 pub loop-row-init : goal.loop-row-init
