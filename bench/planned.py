@@ -229,7 +229,7 @@ def bench_planning(folder, quick):
     vertices = MOST_VERTICES // 16 if quick else MOST_VERTICES
     measure_making("edges to near vertices", NEAR, [2, 4_096], folder, vertices)
     measure_making("edges to far vertices", FAR, [2], folder, vertices)
-    most_units, shots = (16, 64) if quick else (64, 256)
+    most_units, shots = (16, 512) if quick else (64, 1_024)
     print_line("plans by layers beside time", ["units", "by time ms", "by layers", "instructions"])
     for distance in [9, 13] if quick else [9, 13, 21]:
         measure_lattice(distance, 10 * distance, shots, most_units, folder)
