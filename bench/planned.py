@@ -59,7 +59,7 @@ def bench_fusions(folder, quick):
 
 # Plans of many units.
 
-MANY_UNITS = [1, 16, 64, 256, 4_096]
+MANY_UNITS = [1, 4, 16, 64, 256, 4_096]
 MORE_DEFECTS = 50
 
 
@@ -101,14 +101,16 @@ def bench_plans(folder, quick):
     def more_defects(draw, graph, virtuals):
         return few_defects(draw, graph, virtuals, MORE_DEFECTS)
 
-    def hit(draw, graph, virtuals):
-        return defects_of(graph, virtuals, flipped_edges(draw, len(graph.edges), 0.001))
+    def hit_at(rate):
+        return lambda draw, graph, virtuals: defects_of(graph, virtuals, flipped_edges(draw, len(graph.edges), rate))
 
     for is_chain in [False, True]:
         shape = "chain" if is_chain else "balanced"
         measure_plans(f"{FEW_DEFECTS} defects, {shape}", graph, distance, rounds, few_defects, 20, is_chain, folder)
         measure_plans(f"{MORE_DEFECTS} defects, {shape}", graph, distance, rounds, more_defects, 20, is_chain, folder)
-        measure_plans(f"0.1 %, {shape}", graph, distance, rounds, hit, 2, is_chain, folder)
+        for rate in [0.001, 0.005]:
+            shots = 8 if quick else 2
+            measure_plans(f"{100 * rate:.1f} %, {shape}", graph, distance, rounds, hit_at(rate), shots, is_chain, folder)
     bench_gains(folder, quick)
 
 
