@@ -1,2 +1,3 @@
 pub mod Predictions
 pub mod PredictEndings
+pub mod PredictLaws
