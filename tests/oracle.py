@@ -15,6 +15,7 @@ import sys
 sys.dont_write_bytecode = True
 from lattices import sample_text
 from layers import plan_text
+from predictions import TEXTS, predictions_text, read_observables
 from readers import RECORDS, Refused, read_graph, read_plan, read_report, read_shots, whole_plan
 from traces import trace_complaints
 
@@ -223,10 +224,12 @@ OPTIONS = {
     "check": ["--graph", "--shots", "--format", "--report"],
     "sample": ["--distance", "--rounds", "--units", "--rate", "--start", "--shots"],
     "plan": ["--graph", "--units"],
+    "predict": ["--graph", "--observables", "--report", "--to"],
 }
-FREE = {"decode": ["--plan", "--workers", "--window"], "check": [], "sample": ["--workers", "--window"], "plan": []}
-FLAGS = {"decode": ["--trace"], "check": [], "sample": [], "plan": []}
-NAMES = ["--graph", "--plan", "--shots", "--report"]
+FREE = {"decode": ["--plan", "--workers", "--window"], "sample": ["--workers", "--window"]}
+FLAGS = {"decode": ["--trace"]}
+NAMES = ["--graph", "--plan", "--shots", "--observables", "--report"]
+FORMATS = {"--format": RECORDS, "--to": TEXTS}
 RANGES = {
     "--workers": (1, 64),
     "--window": (1, 64),
@@ -262,14 +265,14 @@ def read_words(words):
     options = {}
     while rest:
         name, equals, value = rest.pop(0).partition("=")
-        if name in FLAGS[command] and not equals and name not in options:
+        if name in FLAGS.get(command, []) and not equals and name not in options:
             options[name] = ""
             continue
         if not equals:
             if not rest or (rest[0].startswith("-") and rest[0] != "-"):
                 raise Usage(None)
             value = rest.pop(0)
-        if name not in OPTIONS[command] + FREE[command] or name in options:
+        if name not in OPTIONS[command] + FREE.get(command, []) or name in options:
             raise Usage(None)
         options[name] = value
     if any(name not in options for name in OPTIONS[command]):
@@ -277,9 +280,7 @@ def read_words(words):
     ranges = {**RANGES, "--shots": (1, MOST_SAMPLED_SHOTS)} if command == "sample" else RANGES
     for name in options.keys() & ranges.keys():
         options[name] = number_within(options[name], *ranges[name])
-    if "--format" not in options:
-        return command, options
-    if options["--format"] not in RECORDS:
+    if any(options[name] not in FORMATS[name] for name in options.keys() & FORMATS.keys()):
         raise Usage(b"fusion: unknown format\n")
     if [options.get(name) for name in NAMES].count("-") > 1:
         raise Usage(b"fusion: two names for standard input\n")
@@ -311,6 +312,7 @@ def complaints_of(words, files, answer):
         "check": check_complaints,
         "sample": sample_complaints,
         "plan": plan_complaints,
+        "predict": predict_complaints,
     }
     try:
         return answers[command](options, files, answer)
@@ -355,6 +357,14 @@ def sample_complaints(options, files, answer):
 def plan_complaints(options, files, answer):
     graph = read_graph(opened(files, options["--graph"]))
     return differences(answer, plan_text(graph, options["--units"]), b"", 0)
+
+
+def predict_complaints(options, files, answer):
+    graph = read_graph(opened(files, options["--graph"]))
+    observables = read_observables(opened(files, options["--observables"]), graph)
+    report = read_report(opened(files, options["--report"]))
+    text = predictions_text(observables, report.rows, options["--to"])
+    return differences(answer, text, b"", 1 if any(row[0] == "odd" for row in report.rows) else 0)
 
 
 def check_complaints(options, files, answer):
