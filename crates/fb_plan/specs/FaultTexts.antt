@@ -5,7 +5,7 @@ use Rattle.fb_plan.specs.declared.faults.Member.TheVariants as member
 use Rattle.fb_plan.specs.declared.faults.Place.{Place}
 use Rattle.fb_plan.specs.declared.faults.Place.TheVariants as place
 use Rattle.fb_plan.specs.declared.faults.PlanFault.{PlanFault}
-use Rattle.fb_plan.specs.declared.faults.PlanFault.TheVariants.{TooLong, NotJson, Missing, NotWhole, TooManyUnits, BadRange, VertexUnowned, VertexTwice, ChildOutOfRange, ChildUsedTwice, NotOneRoot, EdgeAcross, NoMemory}
+use Rattle.fb_plan.specs.declared.faults.PlanFault.TheVariants.{TooLong, NotJson, Missing, NotWhole, TooManyUnits, BadRange, VertexUnowned, VertexTwice, ChildOutOfRange, ChildUsedTwice, NotOneRoot, EdgeAcross, TooFewLayers, NoMemory}
 
 abbrev pub fault_name : PlanFault → List ℕ
 fault_name TooLong = codes "TooLong"
@@ -20,6 +20,7 @@ fault_name (ChildOutOfRange i) = codes "ChildOutOfRange"
 fault_name (ChildUsedTwice i) = codes "ChildUsedTwice"
 fault_name NotOneRoot = codes "NotOneRoot"
 fault_name (EdgeAcross e) = codes "EdgeAcross"
+fault_name (TooFewLayers h) = codes "TooFewLayers"
 fault_name NoMemory = codes "NoMemory"
 
 abbrev pub member_name : Member → List ℕ
@@ -53,6 +54,7 @@ fault_place (ChildOutOfRange i) = None
 fault_place (ChildUsedTwice i) = None
 fault_place NotOneRoot = None
 fault_place (EdgeAcross e) = None
+fault_place (TooFewLayers h) = None
 fault_place NoMemory = None
 
 abbrev pub fault_number : PlanFault → Option ℕ
@@ -68,4 +70,5 @@ fault_number (ChildOutOfRange i) = Some i
 fault_number (ChildUsedTwice i) = Some i
 fault_number NotOneRoot = None
 fault_number (EdgeAcross e) = Some e
+fault_number (TooFewLayers h) = Some h
 fault_number NoMemory = None

@@ -1,9 +1,10 @@
 ghost use Rattle.std.specs.Prelude.{◌≡◌, option_map};
 ghost use Rattle.fb_plan.specs.FaultTexts.{fault_name, fault_number, fault_place};
 
+use fb_graph::NoMemory;
 use thiserror::Error;
 
-/// Why ranges and fusions, or a text, make no plan of a graph. A place is counted from 0.
+/// Why ranges and fusions, a text, or layers make no plan of a graph. A place is counted from 0.
 ///
 /// Its texts are for other callers: `fusion` prints a fault's name and place.
 #[derive(Clone, Copy, Debug, PartialEq, Eq, Error)]
@@ -32,6 +33,8 @@ pub enum PlanFault {
     NotOneRoot,
     #[error("edge {0} joins vertices whose owners are not one above the other")]
     EdgeAcross(u64),
+    #[error("{0} layers are too few")]
+    TooFewLayers(u64),
     #[error("out of memory")]
     NoMemory,
 }
@@ -58,6 +61,17 @@ pub enum Place {
     Fusion(u64),
 }
 
+impl From<NoMemory> for PlanFault {
+    ghost use Rattle.std.specs.Prelude.{◌≡◌};
+    ghost use Rattle.fb_plan.specs.declared.faults.PlanFault.{PlanFault};
+
+    ghost from_gives = { λ _ fault. fault ≡ PlanFault.NoMemory };
+
+    fn from(_: NoMemory) -> PlanFault {
+        PlanFault::NoMemory
+    }
+}
+
 impl PlanFault {
     /// Its name in the program's output.
     pub fn name(self) -> &'static str
@@ -76,6 +90,7 @@ impl PlanFault {
             PlanFault::ChildUsedTwice(_) => "ChildUsedTwice",
             PlanFault::NotOneRoot => "NotOneRoot",
             PlanFault::EdgeAcross(_) => "EdgeAcross",
+            PlanFault::TooFewLayers(_) => "TooFewLayers",
             PlanFault::NoMemory => "NoMemory",
         }
     }
@@ -94,7 +109,8 @@ impl PlanFault {
         }
     }
 
-    /// The number of its place, if it has one: that of an entry, a node, a vertex, a fusion or an edge.
+    /// Its number, if it has one: that of its place, as an entry, a node, a vertex, a fusion or an edge; or how many layers
+    /// there are.
     pub fn number(self) -> Option<u64>
         ensures { result ≡ fault_number self }
     {
@@ -107,6 +123,7 @@ impl PlanFault {
             PlanFault::ChildOutOfRange(i) => Some(i),
             PlanFault::ChildUsedTwice(i) => Some(i),
             PlanFault::EdgeAcross(i) => Some(i),
+            PlanFault::TooFewLayers(height) => Some(height),
             _ => None,
         }
     }
