@@ -1,12 +1,11 @@
 #!/usr/bin/env python3
-"""Makes the files of this folder, but for the report and the drawing: a surface code of distance 5, a plan, where its vertices
-are drawn, and shots of five rounds.
+"""Makes the files of this folder, but for the plan, the report and the drawing: a surface code of distance 5, where its
+vertices are drawn, and shots of five rounds.
 
 usage: examples/surface/make.py FOLDER
 
 Each round has a sheet of 5 rows and 6 columns; the first and the last column are the boundary. Edges within a sheet are
-errors of data qubits, edges to the next sheet are wrong measurements. Each happens by itself, with the rate below. The
-plan cuts the graph at the middle sheet.
+errors of data qubits, edges to the next sheet are wrong measurements. Each happens by itself, with the rate below.
 """
 
 import json
@@ -62,15 +61,9 @@ def main():
         "virtual_vertices": virtuals,
         "observables": [flipping],
     }
-    sheet = vertices // ROUNDS
-    first, last = ROUNDS // 2 * sheet, (ROUNDS // 2 + 1) * sheet
-    plan = {
-        "units": [[[0, first]], [[last, vertices]]],
-        "fusions": [{"of": [0, 1], "interface": [[first, last]]}],
-    }
     # Column, row and sheet of each vertex.
-    positions = [[v % COLUMNS, v // COLUMNS % DISTANCE, v // sheet] for v in range(vertices)]
-    for name, value in [("graph.json", graph), ("plan.json", plan), ("positions.json", positions)]:
+    positions = [[v % COLUMNS, v // COLUMNS % DISTANCE, v // COLUMNS // DISTANCE] for v in range(vertices)]
+    for name, value in [("graph.json", graph), ("positions.json", positions)]:
         (folder / name).write_text(json.dumps(value, separators=(",", ":")) + "\n")
 
     draw = random.Random(1)
