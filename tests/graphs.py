@@ -3,7 +3,8 @@
 Rings in rings, stars, long lines, complete graphs, grids, parallel edges and edges of no weight or of the greatest.
 """
 
-from collections import namedtuple
+from collections import Counter, namedtuple
+from itertools import accumulate
 
 MOST_WEIGHT = 2**30
 SCALES = [[0, 2], [2], [2, 4, 6], [0, 2, 4, 8, 20], [0, MOST_WEIGHT - 2, MOST_WEIGHT], [10, 12, 14, 1000]]
@@ -91,10 +92,31 @@ def grid(draw):
     return Graph(side * side, edges, draw.choice([[], [row * side for row in range(side)]]))
 
 
+def side_by_side(draw, count):
+    """So many random graphs in one, a few of them long lines and the others tiny; often with the numbers of all mixed."""
+    parts = [(long_line if draw.random() < 0.02 else tiny_graph)(draw) for _ in range(count)]
+    firsts = [0, *accumulate(part.vertices for part in parts)]
+    numbers = list(range(firsts.pop()))
+    if draw.random() < 0.7:
+        draw.shuffle(numbers)
+    edges = [(numbers[first + u], numbers[first + v], weight) for first, part in zip(firsts, parts) for u, v, weight in part.edges]
+    return Graph(len(numbers), edges, [numbers[first + v] for first, part in zip(firsts, parts) for v in part.virtuals])
+
+
 SHAPES = [rings_in_rings, star, long_line, complete_graph, grid]
 
 
 def random_shot(draw, graph, most):
-    real = [v for v in range(graph.vertices) if v not in graph.virtuals]
+    virtuals = set(graph.virtuals)
+    real = [v for v in range(graph.vertices) if v not in virtuals]
     count = draw.choice([1, 2, 3, 4, 6, 8, 12, 20, most, len(real)])
     return sorted(draw.sample(real, min(count, most, len(real))))
+
+
+def shot_of_edges(draw, graph):
+    """The defects of random flipped edges; now and then one more or one fewer, so that there may be no correction."""
+    virtuals, rate = set(graph.virtuals), draw.choice([0.02, 0.1, 0.3])
+    ends = [end for edge in graph.edges if draw.random() < rate for end in edge[:2]]
+    if draw.random() < 0.2:
+        ends.append(draw.randrange(graph.vertices))
+    return sorted(v for v, count in Counter(ends).items() if count % 2 and v not in virtuals)

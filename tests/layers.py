@@ -12,14 +12,15 @@ from readers import Refused
 def layers_of(graph):
     """The layer of each real vertex: how many edges with two real ends lead to it from the least vertex that they
     connect it with."""
-    real = [v for v in range(graph.vertices) if v not in set(graph.virtuals)]
+    virtuals = set(graph.virtuals)
+    real = [v for v in range(graph.vertices) if v not in virtuals]
     near = neighbours(graph, real)
     layers = {}
     for root in real:
-        layer, here = 0, {root} - layers.keys()
+        layer, here = 0, [] if root in layers else [root]
         while here:
             layers.update(dict.fromkeys(here, layer))
-            here = {w for v in here for w in near[v]} - layers.keys()
+            here = {w for v in here for w in near[v] if w not in layers}
             layer += 1
     return layers
 
