@@ -209,7 +209,7 @@ def measure_lattice(distance, rounds, shots, most_units, folder):
     write_graph(graph, folder / "graph.json")
     write_hit_shots(graph, 0.005, shots, folder)
     for units in LAYER_UNITS:
-        if units <= most_units and 2 * units - 1 <= rounds:
+        if units <= most_units:
             plan = json.dumps(plan_by_rounds(distance * (distance + 1), rounds, units, False))
             measure_layers(f"distance {distance} rounds {rounds}", units, plan, folder)
 
@@ -222,7 +222,7 @@ def measure_model(distance, rounds, shots, most_units, folder):
     size = (code.detectors + 7) // 8
     (folder / "shots").write_bytes(b"".join(fired.to_bytes(size, "little") for fired, _ in code.shots(shots, 1)))
     for units in LAYER_UNITS:
-        if units <= most_units and 2 * units - 1 <= rounds:
+        if units <= most_units:
             measure_layers(f"model: {distance}, {rounds} rounds", units, plan_text(plan_by_time(model, units)), folder)
 
 
@@ -234,5 +234,5 @@ def bench_planning(folder, quick):
     most_units, shots = (16, 512) if quick else (64, 1_024)
     print_line("plans by layers beside time", ["units", "by time ms", "by layers", "instructions"])
     for distance in [9, 13] if quick else [9, 13, 21]:
-        measure_lattice(distance, 10 * distance, shots, most_units, folder)
-    measure_model(9, 90, shots, most_units, folder)
+        measure_lattice(distance, max(10 * distance, 2 * most_units), shots, most_units, folder)
+    measure_model(9, max(90, 2 * most_units), shots, most_units, folder)
