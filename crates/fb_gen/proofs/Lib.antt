@@ -6,4 +6,5 @@ pub mod Owners
 pub mod Pairings
 pub mod Rounds
 pub mod Rulings
+pub mod TreeRules
 pub mod Walked

@@ -1,35 +1,29 @@
 -- The ranges and joins of a plan by time make that plan.
-use Rattle.std.proofs.Common.{◌≡◌, ℕ, ◌+◌, ◌-◌, ◌*◌, ◌<◌, ◌≤◌, true, false, List, [], ◌∷◌, length, map, take, get_or, All, refl, sym, ap, ◌∙◌, arith}
+use Rattle.std.proofs.Common.{◌≡◌, ℕ, ◌+◌, ◌-◌, ◌*◌, ◌<◌, ◌≤◌, false, List, [], ◌∷◌, length, map, get_or, All, refl, sym, ap, ◌∙◌, arith}
 use Rattle.std.proofs.Math.Bool.{and-false}
-use Rattle.std.specs.Prelude.{Option, None, option_map, Ok}
+use Rattle.std.specs.Prelude.{None, option_map, Ok}
 use Rattle.std.specs.List.{range_with_len, list_any}
 use Rattle.std.proofs.Math.Nat.{mul-le-mul_right}
-use Rattle.std.proofs.lemmas.Bool.{eq-eqb, ne_eqb, le-ltb, lt-leb, false_from_ne_true}
-use Rattle.std.proofs.lemmas.List.{length-map, length-take, get_or-take, get_or_default}
+use Rattle.std.proofs.lemmas.Bool.{le-ltb}
+use Rattle.std.proofs.lemmas.List.{length-map, get_or_default}
 use Rattle.std.proofs.lemmas.List.Elements.{All-append, All-map}
-use Rattle.std.proofs.lemmas.List.Folds.{list_any_none}
 use Rattle.std.proofs.lemmas.List.FromFn.{length-range_with_len}
 use Rattle.std.proofs.lemmas.Simd.{map-map}
 use Rattle.fb_graph.specs.Limits.{DecodingGraph, is_real_in}
 use Rattle.fb_graph.specs.Problem.{edge_at, no_edge}
 use Rattle.fb_graph.proofs.Sets.{range_below}
-use Rattle.fb_plan.specs.Plans.{PlanTree, names, join_at, goes_across, most_units}
-use Rattle.fb_plan.specs.Rules.{claims_from, joins_of, seams_of, ranges_of, tree_by, plan_from, first_of_faults, units_fault, range_fault, unowned_fault, twice_fault, child_fault, use_fault, root_fault, edge_fault, is_bad_node, is_bad_range, is_unowned, is_owned_twice, is_out_of_range, is_used_twice, is_named}
+use Rattle.fb_plan.specs.Plans.{PlanTree, IsTree, goes_across}
+use Rattle.fb_plan.specs.Rules.{claims_from, joins_of, seams_of, ranges_of, tree_by, plan_from, range_fault, unowned_fault, twice_fault, child_fault, use_fault, root_fault, edge_fault, is_bad_node, is_bad_range, is_unowned, is_owned_twice}
 use Rattle.fb_plan.specs.declared.parts.Join.{Join}
-use Rattle.fb_plan.specs.declared.faults.PlanFault.{PlanFault}
-use Rattle.fb_plan.proofs.Trees.{names_left, names_right}
 use Rattle.fb_gen.specs.Lattice.{vertex_count, lattice_graph}
 use Rattle.fb_gen.specs.TimePlan.{no_fusion, first_round, unit_range, seam_range, time_fusions, time_ranges, time_tree, time_plan_of}
 use Rattle.fb_gen.specs.InternalSharing.{IsShared, plain_join, join_of}
 use Rattle.fb_gen.specs.declared.levels.Fusion.{Fusion}
-use Rattle.fb_gen.proofs.Acceptance.{join_is, joins_length, time_tree_is_tree}
-use Rattle.fb_gen.proofs.Fusions.{length-fusions, fusion_is_later}
+use Rattle.fb_gen.proofs.Acceptance.{time_tree_is_tree}
 use Rattle.fb_gen.proofs.Owners.{time_claims, covered_once, no_edge_across, seam_bounds}
 use Rattle.fb_gen.proofs.Rounds.{first_later, first_within, first_bound}
+use Rattle.fb_gen.proofs.TreeRules.{no_units_fault, no_child_fault, no_use_fault, no_root_fault, no_faults}
 use Rattle.fb_graph.proofs.Leasts.{least_none}
-
-no_units_fault : (t u : ℕ) (units : List (List (ℕ × ℕ))) → IsShared t u → length units ≡ u → units_fault units ≡ None
-no_units_fault t u units shared count = let few : length units ≤ most_units = omega (arith, shared.limit) in rw (le-ltb most_units (length units) few) refl
 
 -- the one range of a node is no bad one
 fine_range : (n : ℕ) (r : ℕ × ℕ) → r.0 ≤ r.1 → r.1 ≤ n → list_any (is_bad_range n) (r ∷ []) ≡ false
@@ -87,51 +81,10 @@ no_twice_fault d t u shared =
     ap (option_map _) (least_none (vertex_count d t) (is_owned_twice (lattice_graph d t) (time_claims d t u))
     (λ v below. rw (covered_once d t u v shared below) (and-false (is_real_in (lattice_graph d t) v))))
 
-no_child_fault : (d t u : ℕ) → IsShared t u → child_fault u (time_tree d t u).joins ≡ None
-no_child_fault d t u shared =
-    ap (option_map _) (least_none (length (time_tree d t u).joins) (is_out_of_range u (time_tree d t u).joins)
-    (λ i less.
-    let within : i < length (time_fusions u) = omega (arith, joins_length d t u) in
-    let later = fusion_is_later u i within in
-    rw (
-      join_is d t u i within,
-      lt-leb (u + i) (get_or (time_fusions u) i no_fusion).left later.0,
-      lt-leb (u + i) (get_or (time_fusions u) i no_fusion).right later.1,
-    ) refl))
-
--- no earlier join names a node of join i
-not_named : (d t u i n : ℕ) → IsShared t u → i < length (time_tree d t u).joins → names (join_at (time_tree d t u).joins i) n ≡ true
-    → is_named (take i (time_tree d t u).joins) n ≡ false
-not_named d t u i n shared less here =
-    list_any_none (λ join. names join n) (take i (time_tree d t u).joins) (λ k e early.
-    let before : k < i = omega (arith, length-take i (time_tree d t u).joins) in
-    let same : get_or (take i (time_tree d t u).joins) k e ≡ join_at (time_tree d t u).joins k =
-    get_or-take i (time_tree d t u).joins k e before ∙ get_or_default (time_tree d t u).joins k e (0, 0) (omega arith) in
-    rw same (false_from_ne_true (names (join_at (time_tree d t u).joins k) n) (λ there.
-    absurd (omega (arith, (time_tree_is_tree d t u shared).once k i n (omega arith) less there here)))))
-
-no_use_fault : (d t u : ℕ) → IsShared t u → use_fault (time_tree d t u).joins ≡ None
-no_use_fault d t u shared =
-    ap (option_map _) (least_none (length (time_tree d t u).joins) (is_used_twice (time_tree d t u).joins)
-    (λ i less.
-    let join : ℕ × ℕ = join_at (time_tree d t u).joins i in
-    rw (
-      ne_eqb (join_at (time_tree d t u).joins i).0 (join_at (time_tree d t u).joins i).1 ((time_tree_is_tree d t u shared).joins i less).differ,
-      not_named d t u i (join_at (time_tree d t u).joins i).0 shared less (names_left (join_at (time_tree d t u).joins i)),
-      not_named d t u i (join_at (time_tree d t u).joins i).1 shared less (names_right (join_at (time_tree d t u).joins i)),
-    ) refl))
-
-no_root_fault : (t u n : ℕ) → IsShared t u → n ≡ length (time_fusions u) → root_fault u n ≡ None
-no_root_fault t u n shared count = rw (eq-eqb u (n + 1) (omega (arith, length-fusions u shared.positive))) refl
-
 no_edge_fault : (d t u : ℕ) → IsShared t u → edge_fault (lattice_graph d t) (time_tree d t u) ≡ None
 no_edge_fault d t u shared =
     ap (option_map _) (least_none (length (lattice_graph d t).edges) (λ e. goes_across (time_tree d t u) (edge_at (lattice_graph d t).edges e))
     (λ e less. no_edge_across d t u shared e no_edge less))
-
-no_faults : (a b c d e f g h : Option PlanFault) → a ≡ None → b ≡ None → c ≡ None → d ≡ None → e ≡ None → f ≡ None → g ≡ None
-    → h ≡ None → first_of_faults (a ∷ b ∷ c ∷ d ∷ e ∷ f ∷ g ∷ h ∷ []) ≡ None
-no_faults a b c d e f g h an bn cn dn en fn gn hn = rw (an, bn, cn, dn, en, fn, gn, hn) refl
 
 pub plan_is_time_tree : (d t u : ℕ) (g : DecodingGraph) (units : List (List (ℕ × ℕ))) (joins : List Join) → IsShared t u
     → g ≡ lattice_graph d t → units ≡ map (λ j. unit_range d t u j ∷ []) (range_with_len 0 u)
@@ -139,13 +92,13 @@ pub plan_is_time_tree : (d t u : ℕ) (g : DecodingGraph) (units : List (List (�
 plan_is_time_tree d t u g units joins shared lattice made joined =
     rw (
       lattice,
-      no_faults _ _ _ _ _ _ _ _ (no_units_fault t u units shared count)
+      no_faults _ _ _ _ _ _ _ _ (no_units_fault units (omega (arith, shared.limit, count)))
           (ap (range_fault (vertex_count d t)) ranges ∙ no_range_fault d t u shared)
           (ap (λ rs. unowned_fault (lattice_graph d t) (claims_from 0 rs)) ranges ∙ no_unowned_fault d t u shared)
           (ap (λ rs. twice_fault (lattice_graph d t) (claims_from 0 rs)) ranges ∙ no_twice_fault d t u shared)
-          (ap (λ n. child_fault n (joins_of joins)) count ∙ ap (child_fault u) nodes ∙ no_child_fault d t u shared)
-          (ap use_fault nodes ∙ no_use_fault d t u shared)
-          (ap (λ n. root_fault n (length (joins_of joins))) count ∙ no_root_fault t u (length (joins_of joins)) shared fusions)
+          (ap (λ n. child_fault n (joins_of joins)) count ∙ ap (child_fault u) nodes ∙ no_child_fault (time_tree d t u) tree_is_tree)
+          (ap use_fault nodes ∙ no_use_fault (time_tree d t u) tree_is_tree)
+          (ap (λ n. root_fault n (length (joins_of joins))) count ∙ ap (λ js. root_fault u (length js)) nodes ∙ no_root_fault (time_tree d t u) tree_is_tree)
           (ap (edge_fault (lattice_graph d t)) tree ∙ no_edge_fault d t u shared),
     )
     (ap Ok tree)
@@ -165,8 +118,8 @@ plan_is_time_tree d t u g units joins shared lattice made joined =
     nodes : joins_of joins ≡ (time_tree d t u).joins
     nodes = sym (map-map node_part plain_join joins) ∙ ap (map node_part) joined ∙ map-map node_part (join_of d t u) (time_fusions u)
 
-    fusions : length (joins_of joins) ≡ length (time_fusions u)
-    fusions = ap length nodes ∙ joins_length d t u
+    tree_is_tree : IsTree (time_tree d t u)
+    tree_is_tree = time_tree_is_tree d t u shared
 
     ranges : ranges_of units joins ≡ time_ranges d t u
     ranges = rw (made, seams) refl

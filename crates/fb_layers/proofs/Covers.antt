@@ -1,10 +1,10 @@
 -- Ranges that hold the vertices that a plan's nodes own give the plan back.
-use Rattle.std.proofs.Common.{ℕ, zero, suc, ◌+◌, ◌<◌, ◌≤◌, ◌≡◌, ◌⊎◌, inl, inr, ◌==◌, ◌&&◌, Bool, true, false, cond, is_some, List, [], ◌∷◌, ◌++◌, length, map, take, get_or, count_by, All, refl, sym, ap, subst, ◌∙◌, arith, length-append}
+use Rattle.std.proofs.Common.{ℕ, suc, ◌+◌, ◌<◌, ◌≤◌, ◌≡◌, ◌⊎◌, inl, inr, ◌==◌, ◌&&◌, Bool, true, false, cond, is_some, List, [], ◌∷◌, ◌++◌, length, map, get_or, count_by, All, refl, sym, ap, subst, ◌∙◌, arith, length-append}
 use Rattle.std.specs.Prelude.{Option, Some, None, Ok, option_map, find}
 use Rattle.std.specs.Option.{option_or}
 use Rattle.std.specs.List.{range_with_len, list_any}
-use Rattle.std.proofs.lemmas.Bool.{both_ways, cases_eq, cases_Bool, eq-eqb, ne_eqb, lt-leb, le-ltb, lt-ltb}
-use Rattle.std.proofs.lemmas.List.{get_or-take, length-take, length-map, ext_get_or}
+use Rattle.std.proofs.lemmas.Bool.{both_ways, cases_eq, cases_Bool, eq-eqb, ne_eqb, le-ltb, lt-ltb}
+use Rattle.std.proofs.lemmas.List.{length-map, ext_get_or}
 use Rattle.std.proofs.lemmas.List.Elements.{All-head, All-tail}
 use Rattle.std.proofs.lemmas.List.Folds.{find-append}
 use Rattle.std.proofs.lemmas.List.FromFn.{get_or-map-range_with_len, length-range_with_len}
@@ -12,13 +12,12 @@ use Rattle.fb_graph.specs.Counts.{as_count}
 use Rattle.fb_graph.specs.Problem.{edge_at, no_edge}
 use Rattle.fb_graph.specs.Limits.{DecodingGraph, is_real_in}
 use Rattle.fb_graph.proofs.Leasts.{least_none}
-use Rattle.fb_plan.specs.Plans.{PlanTree, IsPlan, IsTree, most_units, names, join_at, goes_across, owner_of}
-use Rattle.fb_plan.specs.Rules.{holds, claim_of, claims_from, is_bad_range, is_bad_node, is_unowned, is_owned_twice, owner_in, is_out_of_range, is_named, is_used_twice, tree_by, units_fault, range_fault, unowned_fault, twice_fault, child_fault, use_fault, root_fault, edge_fault, first_of_faults, plan_by}
+use Rattle.fb_plan.specs.Plans.{PlanTree, IsPlan, goes_across, owner_of}
+use Rattle.fb_plan.specs.Rules.{holds, claim_of, claims_from, is_bad_range, is_bad_node, is_unowned, is_owned_twice, owner_in, tree_by, range_fault, unowned_fault, twice_fault, child_fault, use_fault, root_fault, edge_fault, plan_by}
 use Rattle.fb_plan.specs.Vertices.{is_node}
 use Rattle.fb_plan.specs.declared.parts.Claim.{Claim}
-use Rattle.fb_plan.specs.declared.faults.PlanFault.{PlanFault}
-use Rattle.fb_plan.proofs.Trees.{names_left, names_right}
 use Rattle.fb_gen.proofs.Fusions.{count-cons, count-append, count-map}
+use Rattle.fb_gen.proofs.TreeRules.{no_units_fault, no_child_fault, no_use_fault, no_root_fault, no_faults}
 use Rattle.fb_gen.specs.declared.levels.Fusion.{Fusion}
 use Rattle.fb_layers.specs.InternalCovers.{is_held, IsRange, HoldOwned, Ranges, all_ranges, owners_by, tree_by_nodes}
 
@@ -132,66 +131,6 @@ no_bad_range n (r ∷ rs) good =
     let head : IsRange n r = All-head (IsRange n) r rs good in
     let up : r.0 ≤ r.1 = omega (arith, head.0) in
     rw (le-ltb r.1 r.0 up, le-ltb n r.1 head.1, no_bad_range n rs (All-tail (IsRange n) r rs good)) refl
-
-false_unless : (b : Bool) → (b ≡ true → ⊥) → b ≡ false
-false_unless true never = absurd (never refl)
-false_unless false never = refl
-
-not_any : {X : Type 0} (p : X → Bool) (xs : List X) → ((k : ℕ) (d : X) → k < length xs → p (get_or xs k d) ≡ false)
-    → list_any p xs ≡ false
-not_any p [] none = refl
-not_any p (x ∷ xs) none =
-    rw (none 0 x (omega arith), not_any p xs (λ k d less. none (suc k) d (omega arith))) refl
-
--- no earlier fusion names a node of fusion i
-not_named : (t : PlanTree) → IsTree t → (i n : ℕ) → i < length t.joins → names (join_at t.joins i) n ≡ true
-    → is_named (take i t.joins) n ≡ false
-not_named t tree i n less here =
-    not_any (λ join. names join n) (take i t.joins) (λ k d early.
-    let before : k < i = omega (arith, length-take i t.joins) in
-    let within : k < length t.joins = omega arith in
-    false_unless (names (get_or (take i t.joins) k d) n) (λ there.
-    absurd (omega (
-      arith,
-      before,
-      tree.once k i n within less (ap (λ join. names join n) (sym (at k d before within)) ∙ there) here,
-    ))))
-  where
-    at : (k : ℕ) (d : ℕ × ℕ) → k < i → k < length t.joins → get_or (take i t.joins) k d ≡ join_at t.joins k
-    at k d before within = get_or-take i t.joins k d before ∙ same_default t.joins k d within
-      where
-        same_default : (xs : List (ℕ × ℕ)) (j : ℕ) (e : ℕ × ℕ) → j < length xs → get_or xs j e ≡ get_or xs j (0, 0)
-        same_default [] j e inside = absurd (omega arith)
-        same_default (x ∷ xs) zero e inside = refl
-        same_default (x ∷ xs) (suc j) e inside = same_default xs j e (omega arith)
-
-no_units_fault : (units : List (List (ℕ × ℕ))) → length units ≤ most_units → units_fault units ≡ None
-no_units_fault units few = rw (le-ltb most_units (length units) few) refl
-
-no_child_fault : (t : PlanTree) → IsTree t → child_fault t.units t.joins ≡ None
-no_child_fault t tree =
-    ap (option_map _) (least_none (length t.joins) (is_out_of_range t.units t.joins) (λ i less.
-    let join = tree.joins i less in
-    rw (
-      lt-leb (t.units + i) (join_at t.joins i).0 join.left,
-      lt-leb (t.units + i) (join_at t.joins i).1 join.right,
-    ) refl))
-
-no_use_fault : (t : PlanTree) → IsTree t → use_fault t.joins ≡ None
-no_use_fault t tree =
-    ap (option_map _) (least_none (length t.joins) (is_used_twice t.joins) (λ i less.
-    rw (
-      ne_eqb (join_at t.joins i).0 (join_at t.joins i).1 (tree.joins i less).differ,
-      not_named t tree i (join_at t.joins i).0 less (names_left (join_at t.joins i)),
-      not_named t tree i (join_at t.joins i).1 less (names_right (join_at t.joins i)),
-    ) refl))
-
-no_root_fault : (t : PlanTree) → IsTree t → root_fault t.units (length t.joins) ≡ None
-no_root_fault t tree = rw (eq-eqb t.units (length t.joins + 1) tree.count) refl
-
-no_faults : (a b c d e f g h : Option PlanFault) → a ≡ None → b ≡ None → c ≡ None → d ≡ None → e ≡ None → f ≡ None → g ≡ None
-    → h ≡ None → first_of_faults (a ∷ b ∷ c ∷ d ∷ e ∷ f ∷ g ∷ h ∷ []) ≡ None
-no_faults a b c d e f g h an bn cn dn en fn gn hn = rw (an, bn, cn, dn, en, fn, gn, hn) refl
 
 module _ (g : DecodingGraph) (t : PlanTree) (plan : IsPlan g t) (units : List (List (ℕ × ℕ))) (joins : List (ℕ × ℕ))
     (seams : List (List (ℕ × ℕ))) (unit_count : length units ≡ t.units) (seam_count : length seams ≡ length t.joins)
