@@ -2,8 +2,8 @@
 
 use crate::stopped::Stopped;
 use fb_graph::Graph;
-use fb_layers::{ByLayers, LayersFault, layers};
-use fb_plan::Plan;
+use fb_layers::{ByLayers, layers};
+use fb_plan::{Plan, PlanFault};
 use fb_plan_in::read_plan;
 use fb_plan_out::plan_text;
 use std::alloc::Global;
@@ -38,7 +38,7 @@ pub fn are_distances(alloc: Global) -> Result<(), Stopped> {
 
 pub fn are_cut(alloc: Global) -> Result<(), Stopped> {
     let graph = chain(alloc)?;
-    let plan = planned(alloc, &graph, 2)?;
+    let plan = Plan::by_layers(alloc, &graph, 2)?;
     let expected = [None, Some(0), Some(2), Some(1), None];
     for (v, owner) in expected.iter().enumerate() {
         Stopped::unless(plan.owner(v as u32) == *owner, "an owner")?;
@@ -70,16 +70,9 @@ pub fn make_texts(alloc: Global) -> Result<(), Stopped> {
     )
 }
 
-fn planned(alloc: Global, graph: &Graph, units: u32) -> Result<Plan, Stopped> {
-    match Plan::by_layers(alloc, graph, units) {
-        Ok(plan) => Ok(plan),
-        Err(_) => Err(Stopped::NoPlan),
-    }
-}
-
 /// The plan by layers has this text, which is read as the same plan.
 fn has_text(alloc: Global, graph: &Graph, units: u32, expected: &str) -> Result<(), Stopped> {
-    let plan = planned(alloc, graph, units)?;
+    let plan = Plan::by_layers(alloc, graph, units)?;
     let text = plan_text(alloc, graph, &plan)?;
     Stopped::unless(text.as_str() == expected, "a text")?;
     let read = read_plan(alloc, text.as_bytes(), graph)?;
@@ -92,7 +85,7 @@ fn has_text(alloc: Global, graph: &Graph, units: u32, expected: &str) -> Result<
 /// The graph has so many layers, which are too few for so many units.
 fn has_too_few(alloc: Global, graph: &Graph, units: u32, layers: u64) -> Result<(), Stopped> {
     match Plan::by_layers(alloc, graph, units) {
-        Err(LayersFault::TooFewLayers(found)) => Stopped::unless(found == layers, "how many layers there are"),
+        Err(PlanFault::TooFewLayers(found)) => Stopped::unless(found == layers, "how many layers there are"),
         _ => Err(Stopped::Differs("the fault")),
     }
 }

@@ -1,11 +1,11 @@
 -- The plan of a graph by its layers, cut as a plan of a lattice by time cuts rounds: a round is a layer, of all
 -- components at once.
-use Rattle.std.specs.Prelude.{ℕ, ◌≡◌, ◌-◌, ◌*◌, ◌<◌, ◌≤◌, List, length, map, Option, Some, None}
+use Rattle.std.specs.Prelude.{ℕ, ◌≡◌, ◌-◌, ◌*◌, ◌<◌, ◌≤◌, ◌⊎◌, List, length, map, Option, Some, None}
 use Rattle.fb_graph.specs.Limits.{DecodingGraph}
 use Rattle.fb_plan.specs.Plans.{PlanTree, owner_of}
 use Rattle.fb_gen.specs.TimePlan.{IsRoundOf, time_fusions}
-use Rattle.fb_layers.specs.declared.faults.LayersFault.{LayersFault}
-use Rattle.fb_layers.specs.declared.faults.LayersFault.TheVariants.{TooFewLayers, NoMemory}
+use Rattle.fb_plan.specs.declared.faults.PlanFault.{PlanFault}
+use Rattle.fb_plan.specs.declared.faults.PlanFault.TheVariants.{TooFewLayers, NoMemory}
 use Rattle.fb_layers.specs.Layers.{AreLayers, height_of, layer_at}
 
 -- the owner of a vertex: the node that has its layer as one of its rounds, of so many; none for a virtual vertex
@@ -33,6 +33,5 @@ pub record AreTooFew (g : DecodingGraph) (units h : ℕ) : Type 0 where
   pub few : h < 2 * units - 1
 
 -- why there is no plan by layers: they are too few, or memory ran out
-abbrev pub IsFault : DecodingGraph → ℕ → LayersFault → Type 0
-IsFault g units (TooFewLayers h) = AreTooFew g units h
-IsFault g units NoMemory = Unit {0}
+abbrev pub IsFault : DecodingGraph → ℕ → PlanFault → Type 0
+IsFault g units fault = ((h : ℕ) × (fault ≡ TooFewLayers h) × AreTooFew g units h) ⊎ (fault ≡ NoMemory)

@@ -4,7 +4,6 @@
 
 pub mod depths;
 pub mod distances;
-pub mod faults;
 pub mod laws;
 pub mod planning;
 mod ranges;
@@ -14,7 +13,6 @@ mod search;
 
 pub use depths::Layers;
 pub use distances::layers;
-pub use faults::LayersFault;
 pub use laws::{one_layer, one_layering, planned_or_too_few};
 pub use planning::ByLayers;
 pub use runs::add_vertex;

@@ -8,12 +8,11 @@ ghost use Rattle.fb_layers.specs.PlanByLayers.{IsFault, IsPlanByLayers};
 
 use crate::depths::Layers;
 use crate::distances::layers;
-use crate::faults::LayersFault;
 use crate::ranges::plan_of_nodes;
 use crate::rounds::layer_nodes;
 use fb_gen::{all_fusions, first_rounds};
 use fb_graph::{Graph, NoMemory};
-use fb_plan::Plan;
+use fb_plan::{Plan, PlanFault};
 use std::alloc::Global;
 
 /// Plans that are made of a graph: `Plan::by_layers`.
@@ -21,13 +20,13 @@ pub trait ByLayers: Sized {
     /// The plan of a graph by its layers, over all components at once. The layers are cut as a plan of a lattice by
     /// time cuts rounds: `units` runs of layers with one layer between two of them. A plan has 1 to 4,096 units; more
     /// than one unit need a layer each, and one for the seam between each two.
-    fn by_layers(alloc: Global, graph: &Graph, units: u32) -> Result<Self, LayersFault>
+    fn by_layers(alloc: Global, graph: &Graph, units: u32) -> Result<Self, PlanFault>
         requires some { 1 ≤ units }
         requires limit { units ≤ most_units };
 }
 
 impl ByLayers for Plan {
-    fn by_layers(alloc: Global, graph: &Graph, units: u32) -> Result<Plan, LayersFault>
+    fn by_layers(alloc: Global, graph: &Graph, units: u32) -> Result<Plan, PlanFault>
         requires some { 1 ≤ units }
         requires limit { units ≤ most_units }
         ensures plan { IfOk result (IsPlanByLayers graph.now units) }
@@ -39,7 +38,7 @@ impl ByLayers for Plan {
 }
 
 /// The plan of a graph by its layers, if these are enough for so many units.
-fn plan_by_layers(alloc: Global, graph: &Graph, units: u32) -> Result<Plan, LayersFault>
+fn plan_by_layers(alloc: Global, graph: &Graph, units: u32) -> Result<Plan, PlanFault>
     requires some { 1 ≤ units }
     requires limit { units ≤ most_units }
     ensures plan { IfOk result (IsPlanByLayers graph.now units) }
@@ -50,7 +49,7 @@ fn plan_by_layers(alloc: Global, graph: &Graph, units: u32) -> Result<Plan, Laye
     let layers = layers(alloc, graph)?;
     let height = layers.height();
     if 1 < units && height < 2 * u64::from(units) - 1 {
-        return Err(LayersFault::TooFewLayers(height));
+        return Err(PlanFault::TooFewLayers(height));
     }
     let plan = cut(alloc, graph, &layers, units)?;
     Ok(plan)

@@ -13,8 +13,8 @@ ghost use Rattle.fb_request.specs.Ranges as ranges;
 
 use fb_endings::{Cause, Refusal, graph_or_cause};
 use fb_graph::Graph;
-use fb_layers::{ByLayers, LayersFault};
-use fb_plan::Plan;
+use fb_layers::ByLayers;
+use fb_plan::{Plan, PlanFault};
 use fb_plan_out::plan_text;
 use fb_ports::{Files, Sink, put_all};
 use fb_request::Planning;
@@ -50,10 +50,10 @@ fn plan_graph<O: Sink>(alloc: Global, graph: &Graph, units: u32, out: &mut O) ->
 {
     let text = match text_by_layers(alloc, graph, units) {
         Ok(text) => text,
-        Err(LayersFault::TooFewLayers(height)) => {
+        Err(PlanFault::TooFewLayers(height)) => {
             return Cause::Refused(Refusal::TooFewLayers(height));
         }
-        Err(LayersFault::NoMemory) => return Cause::NoMemory,
+        Err(_) => return Cause::NoMemory,
     };
     let Ok(()) = put_all(out, text.as_bytes()) else {
         return Cause::WriteFault;
@@ -62,7 +62,7 @@ fn plan_graph<O: Sink>(alloc: Global, graph: &Graph, units: u32, out: &mut O) ->
 }
 
 /// The text of the plan of a graph by its layers, if these are enough for so many units.
-fn text_by_layers(alloc: Global, graph: &Graph, units: u32) -> Result<String, LayersFault>
+fn text_by_layers(alloc: Global, graph: &Graph, units: u32) -> Result<String, PlanFault>
     requires some { 1 ≤ units }
     requires limit { units ≤ most_units }
     ensures text { IfOk result (λ s. IsTextByLayers graph.now units (string_bytes s)) }
