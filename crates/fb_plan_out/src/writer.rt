@@ -12,12 +12,12 @@ use fb_plan::Plan;
 use json::Writer;
 use std::alloc::Global;
 
-/// The text of a plan of a graph, which the reader of plans gives back: one JSON value (RFC 8259) without spaces, and a
-/// newline. The ranges of a node are the maximal runs of consecutive vertices that it owns, rising.
+/// The text of a plan: one JSON value (RFC 8259) without spaces, and a newline. The ranges of a node are the maximal
+/// runs of consecutive vertices that it owns, rising. If the plan is one of this graph, the reader of plans returns it.
 pub fn plan_text(alloc: Global, graph: &Graph, plan: &Plan) -> Result<String, NoMemory>
-    requires { IsPlan graph.now plan.now }
     ensures text { IfOk result (λ s. string_bytes s ≡ text_of_plan plan.now) }
-    ensures reads_back { IfOk result (λ s. plan_of_text (string_bytes s) graph.now ≡ Ok plan.now) }
+    ensures reads_back { IsPlan graph.now plan.now
+        → IfOk result (λ s. plan_of_text (string_bytes s) graph.now ≡ Ok plan.now) }
 {
     graph.limits();
     let mut writer = Writer::new(Vec::new(alloc));

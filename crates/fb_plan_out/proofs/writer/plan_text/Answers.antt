@@ -16,7 +16,7 @@ unreachable-requires c =
     false≢true (c.in_default.ensures.succeeds (newline_utf8 _ c.push.new.self.items c.into_inner-bytes.ensures.utf8 bytes))
 
 pub returns-clause-reads_back : goal.returns-clause-reads_back
-returns-clause-reads_back c =
+returns-clause-reads_back c valid =
     let bytes : c.push.new.self.items ≡ print c.write_plan.new.writer.tokens ++ 10 ∷ [] =
     c.in_ok-push.ensures.items
     ∙ ap (λ xs. xs ++ 10 ∷ []) (c.into_inner-bytes.ensures.items
@@ -28,5 +28,5 @@ returns-clause-reads_back c =
     (c.in_ok-write_plan.ensures.tokens
     ∙ ap (λ ts. ts ++ json_tokens (plan_json c.args.plan.now)) c.new-writer.ensures.tokens) in
     rw (ap (λ v. v.items) c.in-Ok.ensures.ok)
-    (plan_reads_back c.args.graph.now c.args.plan.now c.push.new.self.items c.limits.ensures c.requires
+    (plan_reads_back c.args.graph.now c.args.plan.now c.push.new.self.items c.limits.ensures valid
     (newline_utf8 _ c.push.new.self.items c.into_inner-bytes.ensures.utf8 bytes) text)
