@@ -8,6 +8,8 @@
  * FAULT_ERROR     the error of an open, read or write; where it is 0 a read or write moves nothing in place of failing,
  *                 where it is -1 one byte
  * FAULT_ONE_BYTE  1 where each read and write moves one byte
+ * FAULT_THREAD    where it is given, calls of other threads aren't watched: 0 is the first thread, and others count as
+ *                 they are started
  * FAULT_LOG       a file, to which it appends a line for each name that is opened, for each call that failed, and
  *                 where none is to fail for each call that it watches
  */
@@ -27,12 +29,15 @@ extern void *__libc_malloc(size_t);
 extern void *__libc_calloc(size_t, size_t);
 extern void *__libc_realloc(void *, size_t);
 extern void *__libc_memalign(size_t, size_t);
+extern void __libc_free(void *);
 
 enum { LOG_FILE = 100 };
 
 static const char *watched = "";
 static unsigned long number, calls;
 static int lasting, failure, one_byte, is_logged;
+static long watched_thread = -1, threads;
+static __thread long thread;
 
 static long variable(const char *name) {
     const char *text = getenv(name);
@@ -47,6 +52,7 @@ __attribute__((constructor)) static void begin(void) {
     lasting = variable("FAULT_LASTING");
     failure = (int)variable("FAULT_ERROR");
     one_byte = variable("FAULT_ONE_BYTE");
+    if (getenv("FAULT_THREAD")) watched_thread = variable("FAULT_THREAD");
     if (getenv("FAULT_LOG")) {
         int file = syscall(SYS_open, getenv("FAULT_LOG"), O_WRONLY | O_CREAT | O_APPEND, 0600);
         is_logged = syscall(SYS_dup3, file, LOG_FILE, O_CLOEXEC) == LOG_FILE;
@@ -60,6 +66,7 @@ static void tell(const char *line, size_t length) {
 
 static int fails(const char *call) {
     if (strcmp(call, watched) != 0) return 0;
+    if (watched_thread >= 0 && thread != watched_thread) return 0;
     if (number == 0) {
         tell("call\n", 5);
         return 0;
@@ -109,9 +116,28 @@ int open64(const char *name, int flags, ...) {
     return file;
 }
 
-int pthread_create(pthread_t *thread, const pthread_attr_t *attributes, void *(*start)(void *), void *argument) {
+struct started {
+    void *(*start)(void *);
+    void *argument;
+    long thread;
+};
+
+static void *begin_thread(void *given) {
+    struct started started = *(struct started *)given;
+    __libc_free(given);
+    thread = started.thread;
+    return started.start(started.argument);
+}
+
+int pthread_create(pthread_t *id, const pthread_attr_t *attributes, void *(*start)(void *), void *argument) {
     int (*create)(pthread_t *, const pthread_attr_t *, void *(*)(void *), void *) = dlsym(RTLD_NEXT, "pthread_create");
-    return fails("thread") ? EAGAIN : create(thread, attributes, start, argument);
+    if (fails("thread")) return EAGAIN;
+    struct started *given = __libc_malloc(sizeof *given);
+    if (!given) return EAGAIN;
+    *given = (struct started){start, argument, __atomic_add_fetch(&threads, 1, __ATOMIC_SEQ_CST)};
+    int status = create(id, attributes, begin_thread, given);
+    if (status != 0) __libc_free(given);
+    return status;
 }
 
 static int refuses_memory(void) {

@@ -1,9 +1,11 @@
-"""Rows and texts whose answers are known, for the oracle's test of itself."""
+"""Rows, texts and events whose answers are known, for the oracle's test of itself."""
 
+import itertools
 from collections import namedtuple
 
 import oracle
-from readers import Refused, build_graph, read_graph, read_report, read_shots
+from readers import Refused, build_graph, build_plan, read_graph, read_report, read_shots
+from traces import trace_complaints
 
 Answer = namedtuple("Answer", "stdout stderr status")
 
@@ -348,9 +350,43 @@ def known_answers():
             yield f"{each} to {name}", bool(oracle.complaints_of(words, files, each)), True
 
 
+def events_text(lines):
+    """A report of one shot and these events."""
+    return "\n".join(["fusion-report 1", "shot 0", "edges", "weight 0", *lines, "done 1 odd 0 units 2 fusions 1\n"]).encode()
+
+
+def known_events():
+    """Of two workers and a plan of two units with a fusion: all whole runs, by whoever does an item, in their order; and runs in
+    another order, in parts, or with one line changed."""
+    plan = build_plan(graph_of(LINE), [[[0, 2]], [[3, 5]]], [{"of": [0, 1], "interface": [[2, 3]]}])
+
+    def is_accepted(lines):
+        return not trace_complaints(plan, 2, 1, {0}, 1, events_text(lines))
+
+    for workers in itertools.product([0, 1], repeat=3):
+        run = [f"{word} {worker} 0 {node}" for node, worker in enumerate(workers) for word in ["took", "gave"]]
+        yield f"the run {run}", is_accepted(run), True
+        for count in range(len(run) + 1):
+            for lines in itertools.permutations(run, count):
+                if list(lines) != run:
+                    yield f"events {lines}", is_accepted(lines), False
+        for at, line in enumerate(run):
+            word, worker, shot, node = line.split()
+            other = "took" if word == "gave" else "gave"
+            for change in [
+                f"{other} {worker} {shot} {node}",
+                f"{word} {1 - int(worker)} {shot} {node}",
+                f"{word} 2 {shot} {node}",
+                f"{word} {worker} 1 {node}",
+                f"{word} {worker} {shot} 3",
+                f"{line}\n{line}",
+            ]:
+                yield f"{change} in {run}", is_accepted([*run[:at], change, *run[at + 1 :]]), False
+
+
 def main():
     passed = failed = 0
-    for part in [known_rows(), known_texts(), known_answers()]:
+    for part in [known_rows(), known_texts(), known_answers(), known_events()]:
         for name, found, known in part:
             if found == known:
                 passed += 1

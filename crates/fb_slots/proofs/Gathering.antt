@@ -2,8 +2,9 @@
 use Rattle.std.proofs.Common.{ℕ, ◌≡◌, ◌+◌, ◌-◌, ◌*◌, ◌<◌, ◌≤◌, Bool, false, Option, Some, None, List, [], ◌∷◌, ◌++◌, length, get_or, ◌⊎◌, inl, inr, refl, sym, ap, subst, ◌∙◌, arith, zero, suc}
 use Rattle.std.proofs.lemmas.Bool.{cases_eq}
 use Rattle.std.proofs.lemmas.Nat.{mul-add-lt}
-use Rattle.std.proofs.lemmas.List.{append-nil, append_assoc, length-append, get_or_append_left, get_or-append_right, get_or-set_same, get_or-set_other}
+use Rattle.std.proofs.lemmas.List.{append-nil, append_assoc, length-append, get_or-set_same, get_or-set_other}
 use Rattle.std.specs.List.{All}
+use Rattle.fb_graph.proofs.Nodes.{All-below, All-top}
 use Rattle.fb_slots.specs.declared.views.Hand.{Hand}
 use Rattle.fb_book.specs.declared.entries.Kind.{Kind}
 use Rattle.fb_slots.specs.Seats.{SeatValue, ends_in, entries_in}
@@ -16,17 +17,6 @@ use lib.ListN.{get_elem?}
 use Rattle.fb_slots.specs.Gathered.{IsGathered}
 use Rattle.fb_slots.proofs.Hands.{trace-append, weigh-append}
 use Rattle.fb_book.specs.Machine.{trace}
-
-pub all_front : {S : Type 0} (p : S → Type 0) (xs : List S) (x : S) → All p (xs ++ x ∷ [])
-    → All p xs
-all_front p xs x h = λ k d less. subst p (get_or_append_left xs (x ∷ []) d k less)
-    (h k d (let l = length-append xs (x ∷ []) in omega (arith, l, less)))
-
-pub all_last : {S : Type 0} (p : S → Type 0) (xs : List S) (x : S) → All p (xs ++ x ∷ []) → p x
-all_last p xs x h = subst p (get_or-append_right xs (x ∷ []) (length xs) (length xs + 0) x refl
-    (omega arith) ∙ (let z : length xs + 0 - length xs ≡ 0 = omega arith in
-    ap (λ i. get_or (x ∷ []) i x) z)) (h (length xs + 0) x (let l = length-append xs (x ∷ []) in
-    omega (arith, l)))
 
 -- with one seat more at the end
 pub entries_last : (xs : List SeatValue) (x : SeatValue) → entries_in (xs ++ x ∷ []) ≡ entries_in
@@ -48,16 +38,16 @@ module _ (own free : SeatValue → Type 0) (b : Layout) (all : List SeatValue) w
       → IsGathered own free b all xs u × own x × free x
   gathered_first xs x u o f e same_entries same_ends one closed = (
     record {
-      own_all = all_front own xs x (subst (All own) e o);
-      free_all = all_front free xs x (subst (All free) e f);
+      own_all = All-below own xs x (subst (All own) e o);
+      free_all = All-below free xs x (subst (All free) e f);
       entries = ap (λ es. entries_in xs ++ es) same_entries
           ∙ sym (ap entries_in e ∙ entries_last xs x);
       ends = let a = ap ends_in e ∙ ends_last xs x in omega (arith, a, same_ends);
       seats = let l = ap length e ∙ length-append xs (x ∷ []) in omega (arith, l, one);
-      closed = closed (all_last free xs x (subst (All free) e f));
+      closed = closed (All-top free xs x (subst (All free) e f));
     },
-    all_last own xs x (subst (All own) e o),
-    all_last free xs x (subst (All free) e f),
+    All-top own xs x (subst (All own) e o),
+    All-top free xs x (subst (All free) e f),
   )
 
   -- the next one from behind
@@ -65,8 +55,8 @@ module _ (own free : SeatValue → Type 0) (b : Layout) (all : List SeatValue) w
       → IsGathered own free b all left v
       → left ≡ xs ++ x ∷ [] → own x × free x
   gathered_next left xs x v g e = (
-    all_last own xs x (subst (All own) e g.own_all),
-    all_last free xs x
+    All-top own xs x (subst (All own) e g.own_all),
+    All-top free xs x
         (subst (All free) e g.free_all),
   )
 
@@ -76,8 +66,8 @@ module _ (own free : SeatValue → Type 0) (b : Layout) (all : List SeatValue) w
       → (free x → (j : ℕ) → IsClosed b u j) → w ≡ with_other v u → IsGathered own free b all xs w
   gathered_more left xs x v u w g e same_entries same_ends one closed is =
       subst (IsGathered own free b all xs) (sym is) (record {
-        own_all = all_front own xs x (subst (All own) e g.own_all);
-        free_all = all_front free xs x (subst (All free) e g.free_all);
+        own_all = All-below own xs x (subst (All own) e g.own_all);
+        free_all = All-below free xs x (subst (All free) e g.free_all);
         entries = sym (append_assoc (entries_in xs) u.entries v.entries)
             ∙ (ap (λ es. es ++ v.entries) (ap (λ es. entries_in xs ++ es) same_entries
             ∙ sym (ap entries_in e ∙ entries_last xs x))

@@ -6,6 +6,7 @@ use Rattle.std.proofs.lemmas.Bool.{cases_eq, eq-eqb, ne_eqb}
 use Rattle.std.proofs.lemmas.List.{append_assoc, length-map, map-append}
 use Rattle.std.proofs.lemmas.List.Elements.{All-head, All-tail}
 use Rattle.std.proofs.lemmas.List.FromFn.{length-range_with_len}
+use Rattle.fb_graph.proofs.BuildSteps.{range_push}
 use Rattle.fb_graph.proofs.Sets.{range_rises}
 use Rattle.fb_book.specs.declared.entries.Kind.{Kind}
 use Rattle.fb_book.specs.declared.entries.Kind.TheVariants.{Took, Gave}
@@ -18,18 +19,13 @@ use Rattle.fb_slots.specs.Slots.{Layout}
 use Rattle.fb_slots.proofs.Hands.{place_entry, trace-append}
 use Rattle.fb_slots.proofs.Taking.{trace_one}
 
-range_more : (a n : ℕ) → range_with_len a (suc n) ≡ range_with_len a n ++ (a + n) ∷ []
-range_more a zero = ap (λ (x : ℕ). x ∷ []) (omega arith)
-range_more a (suc n) = ap (λ xs. a ∷ xs)
-    (range_more (a + 1) n ∙ ap (λ x. range_with_len (a + 1) n ++ x ∷ []) (omega arith))
-
 range_two : (m : ℕ) → range_with_len 0 (2 * suc m) ≡ range_with_len 0 (2 * m) ++ (2 * m) ∷ (2 * m + 1) ∷ []
 range_two m =
     let two : 2 * suc m ≡ suc (suc (2 * m)) = omega arith in
     let none : 0 + 2 * m ≡ 2 * m = omega arith in
     let one : 0 + suc (2 * m) ≡ 2 * m + 1 = omega arith in
-    ap (range_with_len 0) two ∙ (range_more 0 (suc (2 * m))
-    ∙ (ap (λ xs. xs ++ (0 + suc (2 * m)) ∷ []) (range_more 0 (2 * m))
+    ap (range_with_len 0) two ∙ (range_push 0 (suc (2 * m))
+    ∙ (ap (λ xs. xs ++ (0 + suc (2 * m)) ∷ []) (range_push 0 (2 * m))
     ∙ (append_assoc (range_with_len 0 (2 * m)) ((0 + 2 * m) ∷ []) ((0 + suc (2 * m)) ∷ [])
     ∙ (λ i. range_with_len 0 (2 * m) ++ none i ∷ one i ∷ []))))
 

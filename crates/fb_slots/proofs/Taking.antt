@@ -118,8 +118,3 @@ module _ (b : Layout) (is : IsLayout b) (es : List Entry) (w : IsWhole b es) whe
       ∙ (ap (λ x. (h ++ entry_at Took v b.nodes k ∷ []) ++ x ∷ [])
       (second ∙ ap (λ m. entry_at Gave v m k) same)
       ∙ (listed_more k v h less v_is h_is ∙ ap (λ m. listed_by gains m es (k + 1)) (sym same)))))
-
-pub other_default : (xs : List ℕ) (i d e : ℕ) → i < length xs → get_or xs i d ≡ get_or xs i e
-other_default [] i d e less = absurd (omega (arith, less))
-other_default (x ∷ xs) zero d e less = refl
-other_default (x ∷ xs) (suc i) d e less = other_default xs i d e (omega (arith, less))

@@ -1,6 +1,6 @@
 use Rattle.std.proofs.Common.{◌≡◌, ◌*◌, ◌<◌, ◌≤◌, ℕ, List, [], ◌∷◌, length, sym, ap, subst, ◌∙◌, arith}
 use Rattle.fb_plan.specs.Plans.{JobValue, PlanTree, IsTree, node_count}
-use Rattle.std.proofs.lemmas.List.{length-append}
+use Rattle.std.proofs.lemmas.List.{get_or_default, length-append}
 use Rattle.fb_book.specs.declared.entries.Entry.{Entry}
 use Rattle.fb_book.specs.Machine.{IsComplete}
 use Rattle.fb_slots.specs.Listed.{listed_by, gains}
@@ -8,7 +8,7 @@ use Rattle.fb_slots.specs.Ordered.{IsByItem}
 use Rattle.fb_slots.specs.Slots.{layout_of}
 use Rattle.fb_slots.proofs.Layouts.{is_layout}
 use Rattle.fb_slots.proofs.Ordering.{as_many, by_item}
-use Rattle.fb_slots.proofs.Taking.{listed_step, all_listing, all_complete, other_default}
+use Rattle.fb_slots.proofs.Taking.{listed_step, all_listing, all_complete}
 use Rattle.std.specs.List.{All}
 use Rattle.fb_slots.proofs.Ran.{by_listing, within_by}
 use Rattle.fb_slots.proofs.history.history_of.Goals as goal
@@ -40,7 +40,7 @@ loop-place-preserved g c =
     let ws = c.in_ok-workers.workers.items in
     let inside : c.loop-place.place < length ws = subst (λ n. c.loop-place.place < n)
     (sym c.in_ok-workers.ensures.count) c.loop-place-test.true in
-    let taker = c.index-worker.ensures ∙ (other_default ws c.loop-place.place v 0 inside
+    let taker = c.index-worker.ensures ∙ (get_or_default ws c.loop-place.place v 0 inside
     ∙ c.in_ok-workers.ensures.each c.loop-place.place c.loop-place-test.true) in
     let one = ap length c.push_reserved.ensures.items ∙ length-append c.loop-place.history.items
     (c.entry_of.result ∷ []) in
