@@ -34,17 +34,17 @@ class ReportTooLong(ReportError):
 
 @dataclass(frozen=True)
 class Settings:
-    """How shots are decoded: by which program, and how many processes of it at once.
+    """How shots are decoded: by which program, and how many parts at once, each by one process that works at a time.
 
     A part has at most `part_bytes`, or one shot. One whose report is longer than `most_report_bytes` is halved. Memory grows
-    with both, and not with the number of parts: `fusion predict` keeps the report of a part.
+    with the parts and not with their number: `fusion predict` keeps the report of a part, which may be many times its length.
     """
 
     program: str
     processes: int = 1
     scale: float = DEFAULT_SCALE
     skip_hyperedges: bool = False
-    part_bytes: int = 1 << 20
+    part_bytes: int = 1 << 18
     most_report_bytes: int = MOST_REPORT_BYTES
 
     def __post_init__(self):
