@@ -103,7 +103,8 @@ def add_count(commands):
     count.add_argument("--csv", metavar="NAME", help="add a row in sinter's columns to this file; - is standard output")
     count.add_argument("--scale", type=float, default=DEFAULT_SCALE, help=f"of the weights (default: {DEFAULT_SCALE})")
     count.add_argument("--skip-hyperedges", action="store_true", help="leave out parts of more than two detectors")
-    count.add_argument("--processes", type=whole_number(1), default=1, metavar="N", help="parts that are decoded at once (default: 1)")
+    parts = "parts of the shots that are decoded at once (default: 1)"
+    count.add_argument("--processes", type=whole_number(1), default=1, metavar="N", help=parts)
     add_program(count)
 
 

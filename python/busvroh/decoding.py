@@ -1,4 +1,4 @@
-"""Decodes many shots of a model: a part of them at a time by a run of `fusion decode`, whose report goes to `fusion predict`."""
+"""Decodes many shots of a model, a part of them by each run of `fusion decode`; its report goes to `fusion predict`."""
 
 import contextlib
 import re
@@ -36,8 +36,8 @@ class ReportTooLong(ReportError):
 class Settings:
     """How shots are decoded: by which program, and how many parts at once, each by one process that works at a time.
 
-    A part has at most `part_bytes`, or one shot. One whose report is longer than `most_report_bytes` is halved. Memory grows
-    with the parts and not with their number: `fusion predict` keeps the report of a part, which may be many times its length.
+    A part has at most `part_bytes`, or one shot. One whose report is longer than `most_report_bytes` is halved. Memory
+    grows with the parts and not with their number: `fusion predict` keeps the report of a part.
     """
 
     program: str
@@ -149,7 +149,7 @@ class Decoding:
 
 
 def rows_of_report(end):
-    """How many rows a report has, and how many of them are odd, by its end. `predict` refuses a report with other numbers."""
+    """How many rows a report has, and how many of them are odd, by its last line. If that is wrong `predict` refuses it."""
     last = LAST_LINE.search(end)
     if last is None:
         raise Unfinished("the report has no done line, so its run didn't come to its end")

@@ -1,4 +1,4 @@
-"""The observables that corrections flip: of whole reports as `fusion predict` says, and of single rows by their edges."""
+"""The observables of a graph, and which of them the correction of a single row flips."""
 
 from busvroh.bits import bytes_of
 
