@@ -49,6 +49,7 @@ RECORDS = {
     "r8": [runs(hits) for hits in HITS],
     "json": [json.dumps({"defect_vertices": shot}).encode() + b"\n" for shot in SHOTS],
 }
+OBSERVABLES = [[0], [1, 2, 7], [], [*range(10)]]
 SAMPLE = {"distance": 3, "rounds": 3, "units": 2, "rate": 200_000, "start": 5, "shots": 4}
 
 SAID = {3: b"fusion: read fault\n", 4: b"fusion: write fault\n", 5: b"fusion: out of memory\n"}
@@ -218,6 +219,14 @@ def check_command(space, name, decode, change):
     return judged(space, Command(name, words, files, texts=texts))
 
 
+def predict_command(space, decode):
+    """Predicts what the rows of a decoding command flip. Nothing is written before all files are read."""
+    observables = json.dumps({"observables": OBSERVABLES}).encode()
+    files = {"graph.json": decode.files["graph.json"], "observables.json": observables, "report": decode.whole}
+    words = ["predict", "--graph", "graph.json", "--observables", "observables.json", "--report", "report", "--to", "01"]
+    return judged(space, Command("predict", words, files))
+
+
 def sample_command(space, numbers=SAMPLE):
     words = ["sample", "--workers", "2", "--window", "2"]
     for name, number in numbers.items():
@@ -244,6 +253,8 @@ class Commands(dict):
         if name == "bad":
             wrong = lambda report: report.replace(b"weight 0\n", b"weight 2\n", 1)
             return check_command(self.space, "check bad", self["01"], wrong)
+        if name == "predict":
+            return predict_command(self.space, self["01"])
         if name == "sample":
             return sample_command(self.space)
         return decode_command(self.space, name, 1)
@@ -251,7 +262,7 @@ class Commands(dict):
 
 def files_of(command):
     """The files of a command in the order in which it opens them."""
-    return [name for name in ["graph.json", "plan.json", "report", "shots"] if name in command.files]
+    return [name for name in ["graph.json", "plan.json", "observables.json", "report", "shots"] if name in command.files]
 
 
 def form_of(command):

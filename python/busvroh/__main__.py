@@ -20,7 +20,6 @@ EXAMPLES = {
     "threshold": "--distances 3,5 --shots 100 threshold.svg",
 }
 PROGRESS_SECONDS = 5
-PART_BYTES = 1 << 20  # smaller than by default, so that progress is told often
 DEFAULT_RATES = {
     "repetition": "0.04,0.06,0.08,0.1,0.12,0.14,0.16",
     "surface": "0.01,0.015,0.02,0.025,0.03,0.035,0.04",
@@ -104,13 +103,14 @@ def add_count(commands):
     count.add_argument("--csv", metavar="NAME", help="add a row in sinter's columns to this file; - is standard output")
     count.add_argument("--scale", type=float, default=DEFAULT_SCALE, help=f"of the weights (default: {DEFAULT_SCALE})")
     count.add_argument("--skip-hyperedges", action="store_true", help="leave out parts of more than two detectors")
-    count.add_argument("--processes", type=whole_number(1), default=1, metavar="N", help="run at once (default: 1)")
+    parts = "parts of the shots that are decoded at once (default: 1)"
+    count.add_argument("--processes", type=whole_number(1), default=1, metavar="N", help=parts)
     add_program(count)
 
 
 def count_files(asked):
     fusion, skip = find_program(asked.program), asked.skip_hyperedges
-    settings = Settings(fusion, asked.processes, asked.scale, skip_hyperedges=skip, part_bytes=PART_BYTES)
+    settings = Settings(fusion, asked.processes, asked.scale, skip_hyperedges=skip)
     with open(asked.dem, encoding="utf-8", errors="surrogateescape") as model:
         text = model.read()
     decoding = Decoding(text.splitlines(), settings)

@@ -1,5 +1,8 @@
-"""Decodes many shots of a model, a part of them by each run of `fusion decode`."""
+"""Decodes many shots of a model, a part of them by each run of `fusion decode`; its report goes to `fusion predict`."""
 
+import contextlib
+import re
+import subprocess
 import tempfile
 from collections import deque, namedtuple
 from concurrent.futures import ThreadPoolExecutor
@@ -7,30 +10,42 @@ from dataclasses import dataclass
 from pathlib import Path
 
 from busvroh.bits import bytes_of
-from busvroh.flips import Flips, Observables, flips_of_report
+from busvroh.flips import Observables
 from busvroh.models import DEFAULT_SCALE, graph_text, read_model
-from busvroh.program import judge_end, start
-from busvroh.rows import MOST_BYTES, ReportError, ReportTooLong, Unfinished
+from busvroh.program import abandon, judge_end, start
+from busvroh.rows import ReportError, Unfinished
 
-OPTIONS = ["--shots", "-", "--format", "b8", "--window", "64"]
+DECODE_OPTIONS = ["--shots", "-", "--format", "b8", "--window", "64"]
+PREDICT_OPTIONS = ["--report", "-", "--to", "b8"]
+MOST_REPORT_BYTES = 1 << 30
+PIECE_BYTES = 1 << 16
+LAST_LINE = re.compile(rb"done (\d+) odd (\d+) units \d+ fusions \d+\n\Z")
+MOST_LAST_LINE = 128
 
 # Some shots in the format b8: how many there are, and their bytes.
 Part = namedtuple("Part", "shots bits")
+# The shots of a part, the observables that each flips, packed, the lowest bit first, and how many had no correction.
+Flips = namedtuple("Flips", "shots bits odd")
+
+
+class ReportTooLong(ReportError):
+    """A report of more bytes than may be read."""
 
 
 @dataclass(frozen=True)
 class Settings:
-    """How shots are decoded: by which program, and how many processes of it at once.
+    """How shots are decoded: by which program, and how many parts at once, each by one process that works at a time.
 
-    A part has at most `part_bytes`, or one shot. One whose report is longer than `most_report_bytes` is halved.
+    A part has at most `part_bytes`, or one shot. One whose report is longer than `most_report_bytes` is halved. Memory
+    grows with the parts and not with their number: `fusion predict` keeps the report of a part.
     """
 
     program: str
     processes: int = 1
     scale: float = DEFAULT_SCALE
     skip_hyperedges: bool = False
-    part_bytes: int = 1 << 22
-    most_report_bytes: int = MOST_BYTES
+    part_bytes: int = 1 << 18
+    most_report_bytes: int = MOST_REPORT_BYTES
 
     def __post_init__(self):
         if self.processes < 1:
@@ -98,21 +113,44 @@ class Decoding:
         return Flips(part.shots, one.bits + other.bits, one.odd + other.odd)
 
     def flips_by_run(self, graph, part):
-        words = [self.settings.program, "decode", "--graph", graph, *OPTIONS]
-        with tempfile.TemporaryFile(dir=graph.parent) as shots:
+        """The flips of a part by a run of `decode`, and one of `predict` that reads its report."""
+        program, names = self.settings.program, ["--graph", graph]
+        with contextlib.ExitStack() as runs:
+            shots = runs.enter_context(tempfile.TemporaryFile(dir=graph.parent))
             shots.write(part.bits)
             shots.seek(0)
-            with start(words, shots) as run:
-                flips = self.flips_of_run(run)
-        if flips.shots != part.shots:
-            raise ReportError(f"a report of {flips.shots} rows for {part.shots} shots")
-        return flips
+            decode = runs.enter_context(start([program, "decode", *names, *DECODE_OPTIONS], shots))
+            words = [program, "predict", *names, "--observables", graph, *PREDICT_OPTIONS]
+            predict = runs.enter_context(start(words, subprocess.PIPE))
+            runs.callback(abandon, predict)
+            rows, odd = rows_of_report(self.report_to(predict, decode))
+            bits = predict.stdout.read()
+            judge_end(predict)
+        if (rows, len(bits)) != (part.shots, part.shots * self.observables.size):
+            raise ReportError(f"a report of {rows} rows, and {len(bits)} bytes of flips, for {part.shots} shots")
+        return Flips(rows, bits, odd)
 
-    def flips_of_run(self, run):
+    def report_to(self, predict, decode):
+        """Copies the report of a run of `decode` to one of `predict`, and returns its end, which has the last line."""
+        size, end, most = 0, b"", self.settings.most_report_bytes
         try:
-            flips = flips_of_report(run.stdout, self.observables, self.settings.most_report_bytes)
-        except Unfinished:
-            judge_end(run)
+            while piece := decode.stdout.read1(PIECE_BYTES):
+                size += len(piece)
+                if size > most:
+                    raise ReportTooLong(f"the report has more than {most} bytes")
+                predict.stdin.write(piece)
+                end = (end + piece)[-MOST_LAST_LINE:]
+            judge_end(decode)
+            predict.stdin.close()
+        except BrokenPipeError:
+            judge_end(predict)
             raise
-        judge_end(run)
-        return flips
+        return end
+
+
+def rows_of_report(end):
+    """How many rows a report has, and how many of them are odd, by its last line. If that is wrong `predict` refuses it."""
+    last = LAST_LINE.search(end)
+    if last is None:
+        raise Unfinished("the report has no done line, so its run didn't come to its end")
+    return map(int, last.groups())

@@ -50,9 +50,16 @@ def built_program(root):
     return str(root / "crates/fusion/out/fusion")
 
 
-def start(words, shots):
-    """Starts a run whose report is read, and whose shots come from a file or, with `subprocess.PIPE`, one by one."""
-    return subprocess.Popen(words, stdin=shots, stdout=subprocess.PIPE, stderr=subprocess.PIPE)
+def start(words, given):
+    """Starts a run whose output is read. It is given a file or, with `subprocess.PIPE`, what is written to it."""
+    return subprocess.Popen(words, stdin=given, stdout=subprocess.PIPE, stderr=subprocess.PIPE)
+
+
+def abandon(run):
+    """Ends a run that is written to, if it hasn't ended."""
+    run.kill()
+    with contextlib.suppress(BrokenPipeError):
+        run.stdin.close()
 
 
 def judge_end(run):

@@ -3,7 +3,6 @@
 from collections import namedtuple
 
 HEAD = b"fusion-report 1\n"
-MOST_BYTES = 1 << 30
 
 # The words of a row's edges, and its weight; both None where the shot has no correction.
 Row = namedtuple("Row", "edges weight")
@@ -18,16 +17,12 @@ class Unfinished(ReportError):
     """A report that ends before its last line, so its run didn't come to its end."""
 
 
-class ReportTooLong(ReportError):
-    """A report of more bytes than may be read."""
-
-
 class Rows:
     """The rows of a report that is open for reading; how many came, and how many of them were odd."""
 
-    def __init__(self, report, most_bytes=None):
-        self.report, self.most_bytes = report, most_bytes
-        self.shots = self.odd = self.bytes = 0
+    def __init__(self, report):
+        self.report = report
+        self.shots = self.odd = 0
         if self.next_line() != HEAD:
             raise ReportError("not a report of version 1")
 
@@ -35,9 +30,6 @@ class Rows:
         line = self.report.readline()
         if line[-1:] != b"\n":
             raise Unfinished("the report has no done line, so its run didn't come to its end")
-        self.bytes += len(line)
-        if self.most_bytes is not None and self.bytes > self.most_bytes:
-            raise ReportTooLong(f"the report has more than {self.most_bytes} bytes")
         return line
 
     def next_row(self):
