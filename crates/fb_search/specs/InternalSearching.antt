@@ -65,7 +65,7 @@ pub record IsSearchingBeside (more : List ℕ) (w : SearchValue) : Type 0 where
   pub room : w.watched.edge_count ≡ length (problem_of w).edges
   pub watch : IsWatched (problem_of w) (roles_in w) w.part.nodes w.watched.edges
   -- no bound is above the slack of its edge
-  pub bounds : AreBounded (slack_at (problem_of w) w.part.nodes) w.watched
+  pub bounds : AreBounded (slack_at (problem_of w) (roles_in w) w.part.nodes) w.watched
 
 -- what every search keeps between its steps
 abbrev pub IsSearching : SearchValue → Type 0
