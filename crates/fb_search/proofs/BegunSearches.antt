@@ -1,5 +1,5 @@
 -- A search that begins keeps what every search keeps.
-use Rattle.std.proofs.Common.{ℕ, ◌≡◌, ◌==◌, ◌<◌, ◌≤◌, ◌||◌, ◌⊎◌, inl, inr, Bool, cond, true, false, List, [], length, get_or, All, Option, Some, None, refl, sym, ap, ◌∙◌, arith}
+use Rattle.std.proofs.Common.{ℕ, ◌≡◌, ◌==◌, ◌<◌, ◌≤◌, ◌||◌, ◌⊎◌, inl, inr, Bool, cond, true, false, List, [], length, get_or, All, Option, Some, None, refl, sym, ap, ◌∙◌, le_refl, arith}
 use Rattle.std.proofs.lemmas.Bool.{false≢true, eq-eqb, eqb-true, ne_eqb}
 use Rattle.fb_graph.specs.Parity.{is_in, differ}
 use Rattle.fb_graph.specs.Problem.{Problem, edge_at, touches, no_edge}
@@ -11,7 +11,8 @@ use Rattle.fb_laws.proofs.SearchTrees.{cover_set}
 use Rattle.fb_laws.proofs.StateMoves.{search_from_root}
 use Rattle.fb_trees.specs.Rooted.{bare}
 use Rattle.fb_obstacles.specs.Watched.{Watched}
-use Rattle.fb_obstacles.specs.Obstacles.{grows, slack_at}
+use Rattle.fb_obstacles.specs.Obstacles.{grows}
+use Rattle.fb_obstacles.specs.Obstacles.{slack_at}
 use Rattle.fb_regions.specs.declared.roles.Role.TheVariants.{Plus, Minus, Out}
 use Rattle.fb_plan.specs.Plans.{PlanTree, problem_at}
 use Rattle.fb_search.specs.InternalSearching.{IsSearching, SearchValue, roles_in}
@@ -75,11 +76,13 @@ begun_searching root part old new are limits within below room empty watched = r
     within = rw (← watched.room ∙ room) below;
     near = λ k less over apart. near k less over;
   };
-  bounds = watched.bounds (slack_at (problem_in part) part.nodes) (λ i less. none i less);
+  bounds = watched.bounds slack slack (λ k away. le_refl (slack k)) (λ i less. none i less);
 }
   where
-    none : (i : ℕ) → i < length old.edges
-        → get_or old.bounds i 0 ≤ slack_at (problem_in part) part.nodes (get_or old.edges i 0)
+    slack : ℕ → ℕ
+    slack = slack_at (problem_in part) (roles_in (begun root part new)) part.nodes
+
+    none : (i : ℕ) → i < length old.edges → get_or old.bounds i 0 ≤ slack (get_or old.edges i 0)
     none i less = absurd (omega (arith, ap length empty, less))
 
     near : (k : ℕ) → k < length (problem_in part).edges

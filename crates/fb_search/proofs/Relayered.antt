@@ -22,7 +22,8 @@ use Rattle.fb_half.specs.Translations.{children_at, link_by, ring_at, ring_links
 use Rattle.fb_half.specs.declared.matches.Match.{Match}
 use Rattle.fb_laws.specs.StateMoves.{relayered_state}
 use Rattle.fb_laws.specs.TreeCycles.{nodes_along}
-use Rattle.fb_obstacles.specs.Obstacles.{IsWatched, slack_at}
+use Rattle.fb_obstacles.specs.Obstacles.{IsWatched}
+use Rattle.fb_obstacles.specs.Obstacles.{slack_at}
 use Rattle.fb_obstacles.specs.Watched.{AreBounded, Watched}
 use Rattle.fb_search.specs.InternalSearching.{IsSearching, SearchValue, problem_of, roles_in, state_at}
 use Rattle.fb_graph.proofs.Nodes.{All-right}
@@ -110,7 +111,7 @@ pub searching_relayered : (w : SearchValue) (f : Node → Node) (watched : Watch
     → IsSearchState (problem_of w) (relayered_state (map f w.part.nodes) (state_at w are.state.0))
     → watched.edge_count ≡ w.watched.edge_count
     → IsWatched (problem_of w) (roles_in w) (map f w.part.nodes) watched.edges
-    → AreBounded (slack_at (problem_of w) (map f w.part.nodes)) watched
+    → AreBounded (slack_at (problem_of w) (roles_in w) (map f w.part.nodes)) watched
     → IsSearching (relayered_by f watched w)
 searching_relayered w f watched are kept alike state room watch bounds = record {
   job = are.job;

@@ -29,11 +29,22 @@ impl Searching<'_> {
         watch.keeps();
     }
 
-    /// Removes the empty top layer of the minus node. The edges that lead to its last vertex are watched already.
+    /// Removes the empty top layer of the minus node: no node holds its last vertex any longer. The edges of that vertex are
+    /// watched, and nothing is known of their slacks.
     pub(crate) fn uncover(&mut self, node: NodeId)
         requires { Obstructs (problem_of self.old) (roles_in self.old) self.old.part.nodes (LayerEmpty node) }
         ensures { GoesOn self.old self.new }
     {
-        self.parts.regions.uncover(node);
+        let Searching { parts, watch, .. } = self;
+        let scope = NodeScope {
+            graph: parts.job().graph(),
+            plan: parts.job().plan(),
+            node: parts.node(),
+        };
+        scope.limits();
+        let freed = parts.regions.last_vertex(node);
+        parts.regions.uncover(node);
+        watch_taken(watch, &scope, &parts.regions, freed);
+        watch.keeps();
     }
 }
