@@ -1,5 +1,5 @@
 -- The watch of a search after a cycle of its tree becomes a blossom: the minus nodes of the cycle are plus now.
-use Rattle.std.proofs.Common.{ℕ, ◌≡◌, ◌≢◌, ◌+◌, ◌<◌, ◌⊎◌, inl, inr, not, cond, Bool, true, false, List, [], ◌∷◌, ◌==◌, ◌≤◌, map, length, take, get_or, All, Some, refl, sym, ap, ◌∙◌, subst, le_refl, if◌then◌else◌}
+use Rattle.std.proofs.Common.{ℕ, ◌≡◌, ◌≢◌, ◌+◌, ◌<◌, ◌⊎◌, inl, inr, not, cond, Bool, true, false, List, [], ◌∷◌, ◌==◌, ◌≤◌, map, length, take, get_or, All, Some, refl, sym, ap, ◌∙◌, subst, le_refl, le_trans, if◌then◌else◌}
 use Rattle.std.specs.List.{list_any}
 use Rattle.std.proofs.lemmas.Bool.{both_ways, cases_Bool, eqb-true, false_from_ne_true, false≢true}
 use Rattle.fb_graph.specs.Parity.{is_in}
@@ -61,6 +61,15 @@ abbrev IsAway : Problem → List Node → Grown → List ℕ → ℕ → Type 0
 IsAway p nodes tree names k =
     (name v : ℕ) → is_in names name ≡ true → role_in tree name ≡ Minus → is_in (top_at nodes name) v ≡ true
     → touches v (edge_at p.edges k) ≡ false
+
+pub minus_first : (p : Problem) (nodes : List Node) (tree : Grown) (w : Watched) → WatchesMinus p nodes tree [] w w
+minus_first p nodes tree w = record {
+  room = refl;
+  kept = λ k h. h;
+  near = λ name v k mem minus held less touch. absurd (false≢true mem);
+  bounds = λ first last each right i less.
+      le_trans (right i less) (each (get_or w.edges i 0) (λ name v mem minus held. absurd (false≢true mem)));
+}
 
 -- the edges at one minus node more
 pub minus_on : (p : Problem) (nodes : List Node) (tree : Grown) (names : List ℕ) (i : ℕ) (a b c : Watched) → i < length names
@@ -341,7 +350,7 @@ module _ (p : Problem) (nodes : List Node) (tree : Grown) (name : ℕ) (children
       (λ k away.
       slack_away (roles_by (role_in tree)) (roles_by (role_in After)) nodes Joined WasMinus (edge_at p.edges k) heights
       milder_closed (λ u v at_u at_v one. together_joined nodes name children names apart_after outer u v one)
-      (λ v was. away was.0 v was.1.0 was.1.1.0 was.1.1.1))
+      (λ v was. away was.0 v was.1 was.2 was.3))
 
 -- the same by the scope of the part's node, whose problem has no defects
 pub watches_minus : (part : PartValue) (g : DecodingGraph) (t : PlanTree) (n : ℕ) (nodes : List Node) (tree : Grown)

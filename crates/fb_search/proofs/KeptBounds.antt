@@ -37,6 +37,12 @@ milder_under before after old new v same plus minus = record {
     each one other more None e h = h
     each one other more (Some n) e h = more n e h
 
+-- the slack of an edge by the nodes over its ends
+abbrev slack_under : Roles → Option ℕ → Option ℕ → ℕ → ℕ → ℕ
+slack_under roles first second residue most =
+    slack_by (is_one_node first second) (passes roles.is_plus first) (passes roles.is_plus second)
+    (passes roles.is_minus first) (passes roles.is_minus second) residue most
+
 -- a slack is never more than the most
 slack-le : (inner a b c d : Bool) (residue most : ℕ) → 2 * residue ≤ most → slack_by inner a b c d residue most ≤ most
 slack-le true a b c d residue most le = omega arith
@@ -89,7 +95,10 @@ slack_still : (before after : Roles) (old new : List Node) (e : Edge)
     → slack_of before old e ≤ slack_of after new e
 slack_still before after old new e same first second together =
     let residue : residue_of new e ≡ residue_of old e = omega (arith, same e.first, same e.second) in
-    rw residue
+    subst
+    (λ r.
+    slack_of before old e
+    ≤ slack_under after (cover_of new e.first) (cover_of new e.second) r (most_of e)) (sym residue)
     (slack_milder (is_inner old e) (is_inner new e) (is_covered_by before.is_plus old e.first)
     (is_covered_by before.is_plus old e.second) (is_covered_by before.is_minus old e.first)
     (is_covered_by before.is_minus old e.second) (is_covered_by after.is_plus new e.first)
@@ -100,14 +109,18 @@ slack_still before after old new e same first second together =
 
 -- an edge from a vertex to itself has the greatest slack
 loop_slack : (roles : Roles) (nodes : List Node) (e : Edge) → e.first ≡ e.second → slack_of roles nodes e ≡ most_of e
-loop_slack roles nodes e loop = rw (← loop) (by (cover_of nodes e.first) refl)
+loop_slack roles nodes e loop =
+    subst
+    (λ v. slack_under roles (cover_of nodes e.first) (cover_of nodes v) (residue_of nodes e) (most_of e) ≡ most_of e) loop
+    (by (cover_of nodes e.first))
   where
-    by : (o : Option ℕ) → cover_of nodes e.first ≡ o
-        → slack_by (is_one_node o o) (passes roles.is_plus o) (passes roles.is_plus o) (passes roles.is_minus o)
-        (passes roles.is_minus o) (residue_of nodes e) (most_of e)
-        ≡ most_of e
-    by None c = refl
-    by (Some n) c = rw (eq-eqb n n refl) refl
+    by : (o : Option ℕ) → slack_under roles o o (residue_of nodes e) (most_of e) ≡ most_of e
+    by None = refl
+    by (Some n) =
+        ap
+        (λ b.
+        slack_by b (roles.is_plus n) (roles.is_plus n) (roles.is_minus n) (roles.is_minus n) (residue_of nodes e) (most_of e))
+        (eq-eqb n n refl)
 
 touched_first : (e : Edge) → e.first ≢ e.second → touches e.first e ≡ true
 touched_first e apart =
@@ -133,7 +146,7 @@ slack_away before after old new At e same milder together away = by (cases_eq e.
         slack-le (is_inner old e) (is_covered_by before.is_plus old e.first) (is_covered_by before.is_plus old e.second)
         (is_covered_by before.is_minus old e.first) (is_covered_by before.is_minus old e.second) (residue_of old e) (most_of e)
         (residue-le old e) in
-        rw (loop_slack after new e loop) le
+        subst (λ s. slack_of before old e ≤ s) (sym (loop_slack after new e loop)) le
     by (inr apart) =
         let first : ¬ At e.first = λ at. both_ways (touches e.first e) (away e.first at) (touched_first e apart) in
         let second : ¬ At e.second = λ at. both_ways (touches e.second e) (away e.second at) (touched_second e apart) in
@@ -148,7 +161,7 @@ pub slack_beside : (roles : Roles) (old new : List Node) (v : ℕ) (e : Edge)
 slack_beside roles old new v e same covers away =
     slack_away roles roles old new (λ u. v ≡ u) e same
     (λ u other. milder_under roles roles old new u (covers u other) (λ n c h. h) (λ n c h. h))
-    (λ u x at_u at_x one. (one.0, covers u at_u ∙ one.1.0, covers x at_x ∙ one.1.1))
+    (λ u x at_u at_x one. (one.0, covers u at_u ∙ one.1, covers x at_x ∙ one.2))
     (λ u here. ap (λ x. touches x e) (sym here) ∙ away)
 
 -- what a step takes from a slack
@@ -157,7 +170,7 @@ module _ (roles : Roles) (nodes : List Node) (k : ℕ) (apart : AreOuterApart no
   -- no slack falls by more than twice the length of a step
   slack_stepped : (e : Edge) → slack_of roles nodes e ≤ slack_of roles (stepped_nodes roles k nodes) e + 2 * k
   slack_stepped e =
-      rw (cover_stepped roles nodes k e.first, cover_stepped roles nodes k e.second)
+      subst (λ s. slack_of roles nodes e ≤ s + 2 * k) (sym same_covers)
       (by (is_inner nodes e) (is_covered_by roles.is_plus nodes e.first) (is_covered_by roles.is_plus nodes e.second)
       (is_covered_by roles.is_minus nodes e.first) (is_covered_by roles.is_minus nodes e.second)
       (height_stepped roles nodes k e.first apart are low) (height_stepped roles nodes k e.second apart are low))
@@ -167,6 +180,13 @@ module _ (roles : Roles) (nodes : List Node) (k : ℕ) (apart : AreOuterApart no
 
       now : ℕ
       now = residue_of (stepped_nodes roles k nodes) e
+
+      same_covers : slack_of roles (stepped_nodes roles k nodes) e
+          ≡ slack_under roles (cover_of nodes e.first) (cover_of nodes e.second) now (most_of e)
+      same_covers =
+          ap (λ o. slack_under roles o (cover_of (stepped_nodes roles k nodes) e.second) now (most_of e))
+          (cover_stepped roles nodes k e.first)
+          ∙ ap (λ o. slack_under roles (cover_of nodes e.first) o now (most_of e)) (cover_stepped roles nodes k e.second)
 
       by : (i a b c d : Bool)
           → height_of (all_cuts (stepped_nodes roles k nodes)) e.first + k * as_count c

@@ -311,5 +311,5 @@ module _ (w : SearchValue) (name : ℕ) (e : EntryOf ℕ) (above below : ℕ) (a
       (λ k away.
       slack_away (roles_in w) (roles_in After) w.part.nodes Others WasHeld (edge_at (problem_of w).edges k)
       (height (problem_of w) w.part.nodes name opens.may_split (nest w name e above below are opens)) milder_opened
-      (λ u v at_u at_v one. (one.0, same_cover u at_u ∙ one.1.0, same_cover v at_v ∙ one.1.1)) away)
+      (λ u v at_u at_v one. (one.0, same_cover u at_u ∙ one.1, same_cover v at_v ∙ one.2)) away)
       are.bounds

@@ -36,11 +36,7 @@ impl Searching<'_> {
         ensures { GoesOn self.old self.new }
     {
         let Searching { parts, watch, .. } = self;
-        let scope = NodeScope {
-            graph: parts.job().graph(),
-            plan: parts.job().plan(),
-            node: parts.node(),
-        };
+        let scope = *parts.regions.scope();
         scope.limits();
         let freed = parts.regions.last_vertex(node);
         parts.regions.uncover(node);

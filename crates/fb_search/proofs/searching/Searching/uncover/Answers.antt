@@ -18,11 +18,12 @@ pub watch_taken-requires-clause-below : goal.watch_taken-requires-clause-below
 watch_taken-requires-clause-below c =
     let w : SearchValue = record { part = part_of c.self.inside.parts; tree = c.self.inside.tree; watched = c.self.inside.watch } in
     let may = rw (← c.self.view_is) at c.requires in
-    let graph = c.graph.ensures ∙ ap (λ j. j.graph) c.job.ensures in
-    let plan = c.plan.ensures ∙ ap (λ j. j.plan) c.job-2.ensures in
+    let scope = c.self.invariant.0 in
+    let graph = ap (λ s. s.graph.now) c.scope.ensures ∙ scope.graph in
     let limits : IsWithinLimits (problem_of w) =
-    kept_limits w.part c.graph.result.now c.plan.result.now c.node.result graph plan c.node.ensures c.limits.ensures in
-    last_below w c.args.node c.last_vertex-freed.result c.graph.result.now.vertices c.self.invariant.1 may.1
+    kept_limits w.part c.scope.result.now.graph.now c.scope.result.now.plan.now c.scope.result.now.node graph
+    (ap (λ s. s.plan.now) c.scope.ensures ∙ scope.plan) (ap (λ s. s.node) c.scope.ensures ∙ scope.node) c.limits.ensures in
+    last_below w c.args.node c.last_vertex-freed.result c.scope.result.now.graph.now.vertices c.self.invariant.1 may.1
     c.last_vertex-freed.ensures.last limits (ap (λ g. g.vertices) graph)
 
 pub invariant_of-self : goal.invariant_of-self
@@ -30,12 +31,12 @@ invariant_of-self c =
     let w : SearchValue = record { part = part_of c.self.inside.parts; tree = c.self.inside.tree; watched = c.self.inside.watch } in
     let may = rw (← c.self.view_is) at c.requires in
     let scope = c.self.invariant.0 in
-    let graph = c.graph.ensures ∙ ap (λ j. j.graph) c.job.ensures in
+    let graph = ap (λ s. s.graph.now) c.scope.ensures ∙ scope.graph in
     rw c.uncover.ensures (
       record { graph = scope.graph; plan = scope.plan; node = scope.node; listed = scope.listed },
       searching_lowered w c.args.node c.last_vertex-freed.result c.watch_taken.new.watch c.self.invariant.1 may.0 may.1
           c.last_vertex-freed.ensures.last c.keeps.ensures.within
-          (kept_taken w.part c.graph.result.now c.plan.result.now c.node.result c.last_vertex-freed.result
+          (kept_taken w.part c.scope.result.now.graph.now c.scope.result.now.plan.now c.scope.result.now.node c.last_vertex-freed.result
           c.last_vertex-freed.result _ _ (uncovered_nodes c.args.node w.part.nodes) w.watched c.watch_taken.new.watch graph refl
           (ap (λ r. r.nodes) c.uncover.ensures) refl c.watch_taken.ensures),
     )
