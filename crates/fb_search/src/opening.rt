@@ -44,12 +44,13 @@ fn open_node(alloc: Global, pieces: &mut Pieces<'_>, node: NodeId) -> Result<(),
     ensures { OnOk result (AreSearching (search_of pieces.old) pieces.new) }
 {
     let Pieces { parts, tree, watch } = pieces;
-    parts.regions.scope().limits();
+    let scope = *parts.regions.scope();
+    scope.limits();
+    watch_node(watch, &scope, &parts.regions, node);
+    watch.keeps();
     let branch = tree.branch(node);
     let above = child_at(parts, node, branch.tree);
     let below = child_at(parts, node, branch.matched);
-    watch_node(watch, parts.regions.scope(), &parts.regions, node);
-    watch.keeps();
     parts.regions.split_node(node)?;
     let cycle = parts.blossoms.open_up(node);
     let apart = taken_apart(alloc, &cycle, above, below)?;

@@ -134,7 +134,7 @@ watch_node-requires-clause-live c = c.requires.empty.1.live
 pub watch_node-requires-clause-room : goal.watch_node-requires-clause-room
 watch_node-requires-clause-room c =
     c.requires.search.room
-    ∙ sym (ap (λ g. length g.edges) (ap (λ (s : NodeScope). s.graph.now) c.scope-2.ensures ∙ c.requires.scope.graph))
+    ∙ sym (ap (λ g. length g.edges) (ap (λ (s : NodeScope). s.graph.now) c.scope.ensures ∙ c.requires.scope.graph))
 
 pub returns : goal.returns
 returns c =
@@ -149,7 +149,7 @@ returns c =
     ∙ ap (λ l. way_on (parts l) c.child_at-below.result) cycle in
     let matches = c.deref-4.ensures.value ∙ c.in_ok-apart.ensures.matches
     ∙ ap (λ l. couples_on (rest_on (parts l) c.child_at-below.result)) cycle in
-    let watches = rw c.scope-2.ensures at c.watch_node.ensures in
+    let watches = rw c.scope.ensures at c.watch_node.ensures in
     let has : HasOpened w c.args.node c.child_at-above.result c.child_at-below.result c.forget_all.new.links
     c.open_up-cycle.new.self c.replace.new.self c.watch_node.new.watch = record {
       taken_off = c.open_up-cycle.ensures.rest;
