@@ -16,8 +16,7 @@ use Rattle.fb_laws.specs.StateMoves.{MayAttach}
 use Rattle.fb_laws.specs.Trees.{Entry, EntryOf, minus_names, plus_names, roles_of}
 use Rattle.fb_laws.proofs.SearchTrees.{cover_set}
 use Rattle.fb_laws.proofs.StateMeasures.{attached_less}
-use Rattle.fb_obstacles.specs.Obstacles.{IsWatched, grows, roles_by, shrinks}
-use Rattle.fb_obstacles.specs.Obstacles.{slack_at}
+use Rattle.fb_obstacles.specs.Obstacles.{IsWatched, grows, roles_by, shrinks, slack_at}
 use Rattle.fb_obstacles.specs.Watched.{AreBounded, Watched}
 use Rattle.fb_regions.specs.declared.roles.Role.TheVariants.{Plus, Minus, Out}
 use Rattle.fb_trees.proofs.Mapped.{minus_moved, plus_moved}

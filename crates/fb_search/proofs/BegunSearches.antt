@@ -11,8 +11,7 @@ use Rattle.fb_laws.proofs.SearchTrees.{cover_set}
 use Rattle.fb_laws.proofs.StateMoves.{search_from_root}
 use Rattle.fb_trees.specs.Rooted.{bare}
 use Rattle.fb_obstacles.specs.Watched.{Watched}
-use Rattle.fb_obstacles.specs.Obstacles.{grows}
-use Rattle.fb_obstacles.specs.Obstacles.{slack_at}
+use Rattle.fb_obstacles.specs.Obstacles.{grows, slack_at}
 use Rattle.fb_regions.specs.declared.roles.Role.TheVariants.{Plus, Minus, Out}
 use Rattle.fb_plan.specs.Plans.{PlanTree, problem_at}
 use Rattle.fb_search.specs.InternalSearching.{IsSearching, SearchValue, roles_in}

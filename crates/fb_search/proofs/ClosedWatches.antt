@@ -19,8 +19,7 @@ use Rattle.fb_laws.proofs.SearchTrees.{cover_set}
 use Rattle.fb_plan.specs.Plans.{PlanTree, problem_at}
 use Rattle.fb_half.specs.Parts.{PartValue, problem_in}
 use Rattle.fb_obstacles.specs.InternalWatching.{Watches}
-use Rattle.fb_obstacles.specs.Obstacles.{IsWatched, grows, roles_by, shrinks}
-use Rattle.fb_obstacles.specs.Obstacles.{slack_at}
+use Rattle.fb_obstacles.specs.Obstacles.{IsWatched, grows, roles_by, shrinks, slack_at}
 use Rattle.fb_obstacles.specs.Watched.{AreBounded, Watched}
 use Rattle.fb_trees.specs.Branches.{Grown}
 use Rattle.fb_trees.specs.Replacements as replacements

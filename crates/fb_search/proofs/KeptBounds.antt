@@ -1,5 +1,5 @@
 -- Bounds of slacks stay right while a search goes on.
-use Rattle.std.proofs.Common.{ℕ, ◌≡◌, ◌≢◌, ◌==◌, ◌+◌, ◌-◌, ◌*◌, ◌≤◌, ◌⊎◌, inl, inr, Bool, true, false, Option, Some, None, List, map, get_or, refl, sym, ap, ◌∙◌, subst, le_trans, arith}
+use Rattle.std.proofs.Common.{ℕ, ◌≡◌, ◌≢◌, ◌==◌, ◌+◌, ◌-◌, ◌*◌, ◌≤◌, ◌⊎◌, inl, inr, Bool, true, false, Option, Some, None, List, map, get_or, refl, sym, ap, ◌∙◌, subst, arith}
 use Rattle.std.proofs.Math.ListN.{get_or-map}
 use Rattle.std.proofs.lemmas.Bool.{both_ways, cases_eq, eq-eqb, false≢true, ne_eqb}
 use Rattle.fb_graph.specs.Counts.{as_count}
@@ -11,8 +11,7 @@ use Rattle.fb_graph.specs.Covers.{AreRoles, is_covered_by, passes}
 use Rattle.fb_graph.specs.Steps.{AllowShrinking, Roles, stepped_nodes}
 use Rattle.fb_graph.proofs.StepHeights.{cover_stepped, height_stepped}
 use Rattle.fb_obstacles.specs.InnerEdges.{is_inner, is_one_node}
-use Rattle.fb_obstacles.specs.Obstacles.{residue_of}
-use Rattle.fb_obstacles.specs.Obstacles.{most_of, slack_at, slack_by, slack_of}
+use Rattle.fb_obstacles.specs.Obstacles.{most_of, residue_of, slack_at, slack_by, slack_of}
 use Rattle.fb_obstacles.specs.Watched.{AreBounded, Watched}
 use Rattle.fb_obstacles.proofs.HeldEnds.{same_node}
 use Rattle.fb_search.specs.InternalProgress.{lowered_by}

@@ -19,8 +19,7 @@ use Rattle.fb_trees.proofs.Mapped as mapped
 use Rattle.fb_half.specs.Parts.{shot_of}
 use Rattle.fb_half.specs.Translations.{link_by}
 use Rattle.fb_obstacles.specs.declared.obstacle.Obstacle.{Obstacle}
-use Rattle.fb_obstacles.specs.Obstacles.{HavePlusParity, IsObstacle, IsWatched, ListsMinus, Obstructs}
-use Rattle.fb_obstacles.specs.Obstacles.{slack_at}
+use Rattle.fb_obstacles.specs.Obstacles.{HavePlusParity, IsObstacle, IsWatched, ListsMinus, Obstructs, slack_at}
 use Rattle.fb_obstacles.specs.Watched.{AreBounded, Watched}
 use Rattle.fb_search.specs.InternalProgress.{rewatched_search}
 use Rattle.fb_search.specs.InternalSearching.{IsSearching, SearchValue, problem_of, roles_in}

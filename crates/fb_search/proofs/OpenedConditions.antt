@@ -1,5 +1,5 @@
 -- What the calls that open a minus blossom ask for.
-use Rattle.std.proofs.Common.{ℕ, ◌≡◌, ◌%◌, ◌⊎◌, inl, inr, All, true, false, List, [], ◌∷◌, ◌++◌, map, length, Option, sym, ap, ◌∙◌, subst, arith}
+use Rattle.std.proofs.Common.{ℕ, ◌≡◌, ◌%◌, ◌⊎◌, inl, inr, All, true, false, List, [], ◌∷◌, ◌++◌, length, Option, sym, ap, ◌∙◌, subst, arith}
 use Rattle.std.specs.List.Sorted.{IsPermutation}
 use Rattle.std.proofs.lemmas.Bool.{both_ways, false_from_ne_true, false≢true, or_cases}
 use Rattle.std.proofs.lemmas.List.{length-map, map-append}

@@ -19,8 +19,7 @@ use Rattle.fb_laws.specs.Trees.{EntryOf, minus_names, plus_names}
 use Rattle.fb_laws.proofs.SearchTrees.{cover_set}
 use Rattle.fb_trees.specs.Branches.{Grown}
 use Rattle.fb_trees.specs.Replacements.{way_of}
-use Rattle.fb_obstacles.specs.Obstacles.{IsWatched}
-use Rattle.fb_obstacles.specs.Obstacles.{slack_at}
+use Rattle.fb_obstacles.specs.Obstacles.{IsWatched, slack_at}
 use Rattle.fb_obstacles.specs.Watched.{AreBounded, Watched}
 use Rattle.fb_search.specs.InternalSearching.{IsSearching, SearchValue, problem_of, roles_in}
 use Rattle.fb_search.proofs.Agreed.{nodes_of}

@@ -22,8 +22,7 @@ use Rattle.fb_half.specs.Translations.{children_at, link_by, ring_at, ring_links
 use Rattle.fb_half.specs.declared.matches.Match.{Match}
 use Rattle.fb_laws.specs.StateMoves.{relayered_state}
 use Rattle.fb_laws.specs.TreeCycles.{nodes_along}
-use Rattle.fb_obstacles.specs.Obstacles.{IsWatched}
-use Rattle.fb_obstacles.specs.Obstacles.{slack_at}
+use Rattle.fb_obstacles.specs.Obstacles.{IsWatched, slack_at}
 use Rattle.fb_obstacles.specs.Watched.{AreBounded, Watched}
 use Rattle.fb_search.specs.InternalSearching.{IsSearching, SearchValue, problem_of, roles_in, state_at}
 use Rattle.fb_graph.proofs.Nodes.{All-right}

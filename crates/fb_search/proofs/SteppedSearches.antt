@@ -25,8 +25,7 @@ use Rattle.fb_trees.proofs.Mapped.{plus_moved}
 use Rattle.fb_half.specs.Matchings.{IsMatchOf, match_links}
 use Rattle.fb_half.specs.Parts.{AreLinksOf}
 use Rattle.fb_half.specs.Translations.{entry_by, link_by}
-use Rattle.fb_obstacles.specs.Obstacles.{IsWatched}
-use Rattle.fb_obstacles.specs.Obstacles.{slack_at}
+use Rattle.fb_obstacles.specs.Obstacles.{IsWatched, slack_at}
 use Rattle.fb_obstacles.specs.Watched.{AreBounded}
 use Rattle.fb_plan.specs.Plans.{PlanTree, problem_at}
 use Rattle.fb_trees.specs.InternalSteps.{IsTreeOver}

@@ -24,8 +24,7 @@ use Rattle.fb_trees.proofs.TightWalks.{ends_told}
 use Rattle.fb_plan.specs.Plans.{PlanTree, problem_at}
 use Rattle.fb_half.specs.Parts.{PartValue, problem_in}
 use Rattle.fb_half.specs.Translations.{link_by}
-use Rattle.fb_obstacles.specs.Obstacles.{IsAbsorb, IsWatched}
-use Rattle.fb_obstacles.specs.Obstacles.{slack_at}
+use Rattle.fb_obstacles.specs.Obstacles.{IsAbsorb, IsWatched, slack_at}
 use Rattle.fb_obstacles.specs.InternalWatching.{WatchesTaken}
 use Rattle.fb_obstacles.specs.Watched.{AreBounded, Watched}
 use Rattle.fb_obstacles.proofs.LeftEdges.{watched_at, watched_elsewhere}

@@ -26,8 +26,7 @@ use Rattle.fb_laws.proofs.StateMoves.{state_uncovered}
 use Rattle.fb_trees.proofs.Mapped.{minus_moved}
 use Rattle.fb_half.specs.Translations.{link_by}
 use Rattle.fb_obstacles.specs.InternalWatching.{WatchesTaken}
-use Rattle.fb_obstacles.specs.Obstacles.{IsWatched}
-use Rattle.fb_obstacles.specs.Obstacles.{slack_at}
+use Rattle.fb_obstacles.specs.Obstacles.{IsWatched, slack_at}
 use Rattle.fb_obstacles.specs.Watched.{AreBounded, Watched}
 use Rattle.fb_obstacles.proofs.LeftEdges.{watched_at, watched_elsewhere}
 use Rattle.fb_obstacles.proofs.TopLayers.{top_real}

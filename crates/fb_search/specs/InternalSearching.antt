@@ -14,8 +14,7 @@ use Rattle.fb_half.specs.Values.{part_of}
 use Rattle.fb_half.specs.Translations.{cycles_by, entry_by, link_by}
 use Rattle.fb_trees.specs.Branches.{Grown}
 use Rattle.fb_trees.specs.Rooted.{role_in}
-use Rattle.fb_obstacles.specs.Obstacles.{IsWatched, roles_by}
-use Rattle.fb_obstacles.specs.Obstacles.{slack_at}
+use Rattle.fb_obstacles.specs.Obstacles.{IsWatched, roles_by, slack_at}
 use Rattle.fb_obstacles.specs.Watched.{AreBounded, Watched}
 use Rattle.fb_search.specs.declared.searching.Pieces.{Pieces}
 
