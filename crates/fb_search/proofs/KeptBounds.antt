@@ -16,7 +16,8 @@ use Rattle.fb_obstacles.specs.Watched.{AreBounded, Watched}
 use Rattle.fb_obstacles.proofs.HeldEnds.{same_node}
 use Rattle.fb_search.specs.InternalProgress.{lowered_by}
 
--- What is over the vertex hinders a step no more than before: what grows there grew before, and what shrank shrinks still.
+-- What is over the vertex hinders a step no more than before: what grows there grew before, and what shrank shrinks
+-- still.
 pub record IsMilder (before after : Roles) (old new : List Node) (v : ℕ) : Type 0 where
   pub plus : is_covered_by after.is_plus new v ≡ true → is_covered_by before.is_plus old v ≡ true
   pub minus : is_covered_by before.is_minus old v ≡ true → is_covered_by after.is_minus new v ≡ true
@@ -121,12 +122,13 @@ loop_slack roles nodes e loop =
         slack_by b (roles.is_plus n) (roles.is_plus n) (roles.is_minus n) (roles.is_minus n) (residue_of nodes e) (most_of e))
         (eq-eqb n n refl)
 
-touched_first : (e : Edge) → e.first ≢ e.second → touches e.first e ≡ true
+-- an edge between two vertices touches both
+pub touched_first : (e : Edge) → e.first ≢ e.second → touches e.first e ≡ true
 touched_first e apart =
     ap (λ a. differ a (e.first == e.second)) (eq-eqb e.first e.first refl)
     ∙ ap (differ true) (ne_eqb e.first e.second apart)
 
-touched_second : (e : Edge) → e.first ≢ e.second → touches e.second e ≡ true
+pub touched_second : (e : Edge) → e.first ≢ e.second → touches e.second e ≡ true
 touched_second e apart =
     ap (λ a. differ a (e.second == e.second)) (ne_eqb e.second e.first (λ same. apart (sym same)))
     ∙ ap (differ false) (eq-eqb e.second e.second refl)

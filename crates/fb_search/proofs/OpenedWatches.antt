@@ -1,5 +1,5 @@
--- Which edges are watched after a minus blossom is opened, and which bounds stay right: all edges at its vertices come under
--- watch.
+-- Which edges are watched after a minus blossom is opened, and which bounds stay right: all edges at its vertices come
+-- under watch.
 use Rattle.std.proofs.Common.{ℕ, ◌≡◌, ◌≢◌, ◌<◌, ◌⊎◌, inl, inr, true, false, List, [], ◌∷◌, ◌++◌, map, length, All, Option, Some, None, is_some, refl, sym, ap, ◌∙◌, subst, append_assoc}
 use Rattle.std.proofs.lemmas.Bool.{both_ways, cases_Bool, false_from_ne_true, false≢true}
 use Rattle.std.proofs.lemmas.List.{map-append}

@@ -29,8 +29,8 @@ impl Searching<'_> {
         watch.keeps();
     }
 
-    /// Removes the empty top layer of the minus node: no node holds its last vertex any longer. The edges of that vertex are
-    /// watched, and nothing is known of their slacks.
+    /// Removes the empty top layer of the minus node, so that no node holds its last vertex any longer. The edges of that
+    /// vertex are watched from now on, and nothing is known of their slacks.
     pub(crate) fn uncover(&mut self, node: NodeId)
         requires { Obstructs (problem_of self.old) (roles_in self.old) self.old.part.nodes (LayerEmpty node) }
         ensures { GoesOn self.old self.new }

@@ -34,8 +34,8 @@ impl<'a> Searching<'a> {
 }
 
 /// Opens the minus blossom, puts the children on the even path between its two links in its place in the tree, and
-/// matches the others in pairs. All edges at its vertices are watched, and nothing is known of their slacks, since some of
-/// the children become plus.
+/// matches the others in pairs. All edges at its vertices are watched from now on, and nothing is known of their slacks,
+/// since some of the children become plus.
 fn open_node(alloc: Global, pieces: &mut Pieces<'_>, node: NodeId) -> Result<(), NoMemory>
     requires scope { HasScope pieces.old.parts }
     requires search { IsSearching (search_of pieces.old) }
