@@ -1,5 +1,5 @@
 -- The watch of a search after a cycle of its tree becomes a blossom: the minus nodes of the cycle are plus now.
-use Rattle.std.proofs.Common.{ℕ, ◌≡◌, ◌≢◌, ◌+◌, ◌<◌, ◌⊎◌, inl, inr, not, cond, Bool, true, false, List, [], ◌∷◌, ◌==◌, ◌≤◌, map, length, take, get_or, All, Some, refl, sym, ap, ◌∙◌, subst, le_refl, le_trans, if◌then◌else◌}
+use Rattle.std.proofs.Common.{ℕ, ◌≡◌, ◌≢◌, ◌+◌, ◌<◌, ◌⊎◌, inl, inr, not, cond, Bool, true, false, List, [], ◌∷◌, ◌==◌, map, length, take, get_or, All, Some, refl, sym, ap, ◌∙◌, subst, if◌then◌else◌}
 use Rattle.std.specs.List.{list_any}
 use Rattle.std.proofs.lemmas.Bool.{both_ways, cases_Bool, eqb-true, false_from_ne_true, false≢true}
 use Rattle.fb_graph.specs.Parity.{is_in}
@@ -18,9 +18,12 @@ use Rattle.fb_laws.specs.Trees.{EntryOf, minus_names, plus_names, tree_names}
 use Rattle.fb_laws.proofs.SearchTrees.{cover_set}
 use Rattle.fb_plan.specs.Plans.{PlanTree, problem_at}
 use Rattle.fb_half.specs.Parts.{PartValue, problem_in}
+use Rattle.fb_obstacles.specs.InternalWatch.{StaysRight}
 use Rattle.fb_obstacles.specs.InternalWatching.{Watches}
 use Rattle.fb_obstacles.specs.Obstacles.{IsWatched, grows, roles_by, shrinks, slack_at}
 use Rattle.fb_obstacles.specs.Watched.{AreBounded, Watched}
+use Rattle.fb_obstacles.proofs.ForgottenBounds.{right_twice}
+use Rattle.fb_obstacles.proofs.WatchSteps.{bounded_by}
 use Rattle.fb_trees.specs.Branches.{Grown}
 use Rattle.fb_trees.specs.Replacements as replacements
 use Rattle.fb_trees.specs.Rooted.{role_in}
@@ -40,21 +43,6 @@ none_in test xs none v within =
     let (x, a, e) = any_among (λ u. u == v) xs within in
     ap test (sym (eqb-true x v e)) ∙ none_among test xs none x a
 
--- limits that some edges had before, and those that others have after
-abbrev partly : (ℕ → Bool) → (ℕ → ℕ) → (ℕ → ℕ) → ℕ → ℕ
-partly here first last k = if here k then first k else last k
-
-partly-le : (here : ℕ → Bool) (first last : ℕ → ℕ) (k : ℕ) → here k ≡ false → partly here first last k ≤ last k
-partly-le here first last k none = subst (λ t. (if t then first k else last k) ≤ last k) (sym none) (le_refl (last k))
-
-le-partly : (here : ℕ → Bool) (first last : ℕ → ℕ) (k : ℕ) → (here k ≡ false → first k ≤ last k)
-    → first k ≤ partly here first last k
-le-partly here first last k less = by (here k) less
-  where
-    by : (t : Bool) → (t ≡ false → first k ≤ last k) → first k ≤ (if t then first k else last k)
-    by true h = le_refl (first k)
-    by false h = h refl
-
 -- the edge has no end at a minus node among these
 abbrev IsAway : Problem → List Node → Grown → List ℕ → ℕ → Type 0
 IsAway p nodes tree names k =
@@ -66,8 +54,8 @@ minus_first p nodes tree w = record {
   room = refl;
   kept = λ k h. h;
   near = λ name v k mem minus held less touch. absurd (false≢true mem);
-  bounds = λ first last each right i less.
-      le_trans (right i less) (each (get_or w.edges i 0) (λ name v mem minus held. absurd (false≢true mem)));
+  bounds = λ first last each right.
+      bounded_by first last w (λ k. each k (λ name v mem minus held. absurd (false≢true mem))) right;
 }
 
 -- the edges at one minus node more
@@ -97,21 +85,20 @@ minus_on p nodes tree names i a b c lt before more = record {
         none_in (λ u. touches u (edge_at p.edges k)) (top_at nodes (get_or names i 0)) none v
         (ap (λ n. is_in (top_at nodes n) v) same ∙ held)
 
-    bounds : (first last : ℕ → ℕ) → ((k : ℕ) → IsAway p nodes tree (take (i + 1) names) k → first k ≤ last k)
-        → AreBounded first a → AreBounded last c
-    bounds first last each right =
-        let top : List ℕ = top_at nodes (get_or names i 0) in
-        let here : ℕ → Bool = λ k. list_any (λ v. touches v (edge_at p.edges k)) top in
-        more.bounds (partly here first last) last
+    here : ℕ → Bool
+    here k = list_any (λ v. touches v (edge_at p.edges k)) (top_at nodes (get_or names i 0))
+
+    bounds : StaysRight (IsAway p nodes tree (take (i + 1) names)) a c
+    bounds =
+        right_twice (IsAway p nodes tree (take i names)) (IsAway p nodes tree (take (i + 1) names)) here a b c
+        (λ k none away name v mem minus held. away_all k away none name v minus held (is_in-take_more names i name lt mem))
+        before.bounds
+        (λ first last each.
+        more.bounds first last
         (λ k away.
-        partly-le here first last k
-        (none_any (λ v. touches v (edge_at p.edges k)) top (λ v among. away v (among_is_in top v among))))
-        (before.bounds first (partly here first last)
-        (λ k away.
-        le-partly here first last k
-        (λ none.
-        each k (λ name v mem minus held. away_all k away none name v minus held (is_in-take_more names i name lt mem))))
-        right)
+        each k
+        (none_any (λ v. touches v (edge_at p.edges k)) (top_at nodes (get_or names i 0))
+        (λ v among. away v (among_is_in (top_at nodes (get_or names i 0)) v among)))))
 
 -- a node that isn't minus brings no edges
 pub minus_past : (p : Problem) (nodes : List Node) (tree : Grown) (names : List ℕ) (i : ℕ) (a b : Watched) → i < length names
