@@ -1,5 +1,5 @@
 -- Edges that are passed over since their bounds show that they bear a step, and looks that set bounds.
-use Rattle.std.proofs.Common.{ℕ, ◌≡◌, ◌-◌, ◌*◌, ◌/◌, ◌≤◌, ◌<◌, ◌==◌, ◌&&◌, ◌⊎◌, inl, inr, Bool, true, false, not, cond, is_some, Option, Some, None, List, length, get_or, set, take, take_all, All, refl, sym, ap, ◌∙◌, subst, true≢false, arith}
+use Rattle.std.proofs.Common.{ℕ, ◌≡◌, ◌-◌, ◌*◌, ◌/◌, ◌≤◌, ◌<◌, ◌==◌, ◌&&◌, ◌⊎◌, inl, inr, Bool, true, false, not, List, length, get_or, set, take, take_all, All, refl, sym, ap, ◌∙◌, subst, true≢false, arith}
 use Rattle.std.specs.List.{swap_remove}
 use Rattle.std.proofs.Math.Bool.{and-false, and-true}
 use Rattle.std.proofs.lemmas.Bool.{and_from, and_parts, eq-eqb, false≢true, false_from_ne_true, cases_eq, cases_lt, eqb-true, leb-true, not_from_false}
@@ -9,9 +9,9 @@ use Rattle.std.proofs.lemmas.List.Elements.{All-from_get_or}
 use Rattle.fb_graph.specs.Parity.{is_in}
 use Rattle.fb_graph.specs.Problem.{Problem, edge_at, no_edge}
 use Rattle.fb_graph.specs.Certificate.{AreDistinct, load_of}
-use Rattle.fb_graph.specs.Dual.{Node, IsDual, AreUnderOne, all_cuts, cover_of}
+use Rattle.fb_graph.specs.Dual.{Node, IsDual, AreUnderOne, all_cuts}
 use Rattle.fb_graph.specs.Steps.{Roles}
-use Rattle.fb_graph.specs.Covers.{AreRoles, is_covered_by, passes}
+use Rattle.fb_graph.specs.Covers.{AreRoles}
 use Rattle.fb_graph.specs.declared.parts.Edge.{Edge}
 use Rattle.fb_graph.proofs.Crossings.{under_or_not}
 use Rattle.fb_graph.proofs.Sets.{All-from_is_in, is_in-All, is_in_at}
@@ -21,23 +21,20 @@ use Rattle.fb_regions.proofs.Stored.{is_in_taken, length-swapped}
 use Rattle.fb_obstacles.specs.declared.obstacle.Obstacle.{Obstacle}
 use Rattle.fb_obstacles.specs.declared.looking.Look.{Look}
 use Rattle.fb_obstacles.specs.declared.looking.Look.TheVariants.{Clear, Within, Blocked}
-use Rattle.fb_obstacles.specs.Obstacles.{BearsStep, Obstructs, residue_at, roles_by, slack_at}
+use Rattle.fb_obstacles.specs.Obstacles.{BearsStep, Obstructs, residue_of, roles_by, slack_at, slack_of}
 use Rattle.fb_obstacles.specs.Watched.{Watched, AreBounded}
 use Rattle.fb_obstacles.specs.InnerEdges.{LeavesInner}
 use Rattle.fb_obstacles.specs.InternalWatch.{IsNext, Reorders}
-use Rattle.fb_obstacles.specs.InternalLooks.{BearBeside, BearsShrinking, LimitsBoth, Limits, both_looks, edge_look, fits_within}
-use Rattle.fb_obstacles.proofs.EdgeScans.{IsSeen, edge_looked}
+use Rattle.fb_obstacles.specs.InternalLooks.{BearBeside, BearsShrinking, HasScanned, IsSeen, Limits, both_looks, bound_by, edge_look, fits_within}
+use Rattle.fb_obstacles.proofs.EdgeLooks.{look_bound}
+use Rattle.fb_obstacles.proofs.EdgeScans.{edge_looked}
+use Rattle.fb_obstacles.proofs.LeftEdges.{outer_edge}
 use Rattle.fb_obstacles.proofs.LookLimits.{limits_blocked, limits_next, limits_passed, limits_same, limits_unlimited}
 use Rattle.fb_obstacles.proofs.RaisedBounds.{bounded_taken, taken_default}
 
--- the name that passes the test is there
-passing_some : (test : ℕ → Bool) (name : Option ℕ) → passes test name ≡ true → is_some name ≡ true
-passing_some test (Some n) passing = refl
-passing_some test None passing = absurd (false≢true passing)
-
 -- an edge bears a step of half its slack
 slack_bears : (p : Problem) (roles : Roles) (nodes : List Node) (j k : ℕ) → IsDual p nodes → AreRoles roles nodes
-    → k < length p.edges → 2 * j ≤ slack_at p nodes k → BearsStep roles nodes j (edge_at p.edges k)
+    → k < length p.edges → 2 * j ≤ slack_at p roles nodes k → BearsStep roles nodes j (edge_at p.edges k)
 slack_bears p roles nodes j k dual are less fits = step (under_or_not nodes e.first e.second)
   where
     e : Edge
@@ -50,27 +47,16 @@ slack_bears p roles nodes j k dual are less fits = step (under_or_not nodes e.fi
     step (inl under) = edge_within_allows p roles nodes j e dual are light under
     step (inr differs) =
         edge_allows p roles nodes j e dual are light differs (record {
-          first = λ plus other free. omega (arith, once, light, dual.loads e differs);
-          second = λ plus other free. omega (arith, once, light, dual.loads e differs);
-          both = λ plus more. omega (arith, twice plus more, light, dual.loads e differs);
+          first = λ plus other free.
+              omega (arith, light, dual.loads e differs, fits_by (2 * residue_of nodes e) (rw (outer_edge nodes e differs, plus, other, free) refl));
+          second = λ plus other free.
+              omega (arith, light, dual.loads e differs, fits_by (2 * residue_of nodes e) (rw (outer_edge nodes e differs, plus, other, free) refl));
+          both = λ plus more.
+              omega (arith, light, dual.loads e differs, fits_by (residue_of nodes e) (rw (outer_edge nodes e differs, plus, more) refl));
         })
       where
-        held : Bool
-        held = is_some (cover_of nodes e.first) && is_some (cover_of nodes e.second)
-
-        once : j ≤ residue_at p nodes k
-        once = by held fits
-          where
-            by : (b : Bool) → 2 * j ≤ cond b (residue_at p nodes k) (2 * residue_at p nodes k) → j ≤ residue_at p nodes k
-            by true few = omega (arith, few)
-            by false few = omega (arith, few)
-
-        twice : is_covered_by roles.is_plus nodes e.first ≡ true → is_covered_by roles.is_plus nodes e.second ≡ true
-            → 2 * j ≤ residue_at p nodes k
-        twice plus more =
-            let both : held ≡ true = and_from (is_some (cover_of nodes e.first)) (is_some (cover_of nodes e.second))
-            (passing_some roles.is_plus (cover_of nodes e.first) plus) (passing_some roles.is_plus (cover_of nodes e.second) more) in
-            subst (λ b. 2 * j ≤ cond b (residue_at p nodes k) (2 * residue_at p nodes k)) both fits
+        fits_by : (x : ℕ) → slack_of roles nodes e ≡ x → 2 * j ≤ x
+        fits_by x is = omega (arith, fits, is)
 
 -- what fits within a slack bounds the step by half of it
 fitting_bound : (l : Look) (slack : ℕ) → fits_within l slack ≡ true → (m : ℕ) × (l ≡ Within m) × (2 * m ≤ slack)
@@ -103,7 +89,7 @@ pub record IsScanned (p : Problem) (role_of : ℕ → Role) (nodes : List Node) 
   pub queued : new.queued ≤ place
   pub within : place ≤ length new.edges
   pub watched : LeavesInner p nodes old new
-  pub bounded : AreBounded (slack_at p nodes) new
+  pub bounded : AreBounded (slack_at p (roles_by role_of) nodes) new
 
 -- the bound of one edge is set to at most its limit
 bounded_set : (limit : ℕ → ℕ) (w : Watched) (i x : ℕ) → AreBounded limit w → x ≤ limit (get_or w.edges i 0)
@@ -135,6 +121,24 @@ leaves_one p nodes old w new m before under room left = record {
   none_new = λ k watched. before.none_new k (and_parts (is_in w.edges k) (not (k == m)) (sym (left k) ∙ watched)).0;
 }
 
+-- another order
+leaves_reordered : (p : Problem) (nodes : List Node) (old w new : Watched) → LeavesInner p nodes old w → Reorders w new
+    → LeavesInner p nodes old new
+leaves_reordered p nodes old w new leaves same = record {
+  room = same.count ∙ leaves.room;
+  kept = λ k watched apart. same.edges k ∙ leaves.kept k watched apart;
+  none_new = λ k watched. leaves.none_new k (sym (same.edges k) ∙ watched);
+}
+
+-- after a scan the edges may stand in another order
+pub scanned_requeued : (p : Problem) (role_of : ℕ → Role) (nodes : List Node) (names : List ℕ) (old w new : Watched) (l : Look)
+    → HasScanned p role_of nodes names old w l → Reorders w new → HasScanned p role_of nodes names old new l
+scanned_requeued p role_of nodes names old w new l scanned same = record {
+  limits = scanned.limits;
+  watched = leaves_reordered p nodes old w new scanned.watched same;
+  bounded = same.bounds (slack_at p (roles_by role_of) nodes) scanned.bounded;
+}
+
 module _ (p : Problem) (role_of : ℕ → Role) (nodes : List Node) (names : List ℕ) (old : Watched)
     (seen : IsSeen p role_of nodes old.edges) where
   abbrev Bears : ℕ → ℕ → Type 0
@@ -147,7 +151,7 @@ module _ (p : Problem) (role_of : ℕ → Role) (nodes : List Node) (names : Lis
   Beside left j = All (BearsShrinking nodes j) names × BearBeside p (roles_by role_of) nodes left old.edges j
 
   -- the minus nodes were looked at, and no edge yet
-  pub scanned_none : (n : ℕ) (l : Look) → n ≡ length old.edges → old.queued ≤ length old.edges → AreBounded (slack_at p nodes) old
+  pub scanned_none : (n : ℕ) (l : Look) → n ≡ length old.edges → old.queued ≤ length old.edges → AreBounded (slack_at p (roles_by role_of) nodes) old
       → Limits (λ j. All (BearsShrinking nodes j) names) Blocks l → IsScanned p role_of nodes names old old n l
   scanned_none n l all few bounded limits = record {
     limits = limits_same (λ j. All (BearsShrinking nodes j) names) (Beside (take n old.edges)) Blocks l
@@ -162,19 +166,11 @@ module _ (p : Problem) (role_of : ℕ → Role) (nodes : List Node) (names : Lis
     bounded = bounded;
   }
 
-  -- another order, before anything is looked at
-  pub leaves_reordered : (w new : Watched) → LeavesInner p nodes old w → Reorders w new → LeavesInner p nodes old new
-  leaves_reordered w new leaves same = record {
-    room = same.count ∙ leaves.room;
-    kept = λ k watched apart. same.edges k ∙ leaves.kept k watched apart;
-    none_new = λ k watched. leaves.none_new k (sym (same.edges k) ∙ watched);
-  }
-
   -- the next edge was chosen
   module _ (w chosen : Watched) (n at k : ℕ) (l : Look) (scanned : IsScanned p role_of nodes names old w n l)
       (next : IsNext w chosen n at) (here : k ≡ get_or chosen.edges at 0) where
     still : LeavesInner p nodes old chosen
-    still = leaves_reordered w chosen scanned.watched next.same
+    still = leaves_reordered p nodes old w chosen scanned.watched next.same
 
     pub watched_here : is_in old.edges k ≡ true
     watched_here = still.none_new k (ap (is_in chosen.edges) here ∙ is_in_at chosen.edges at 0 next.within)
@@ -205,7 +201,7 @@ module _ (p : Problem) (role_of : ℕ → Role) (nodes : List Node) (names : Lis
 
     -- what is known once the edge has been dealt with, in a watch with the same edges up to it
     dealt : (new : Watched) (m : Look) → new.queued ≡ chosen.queued → at ≤ length new.edges
-        → take at new.edges ≡ take at chosen.edges → LeavesInner p nodes old new → AreBounded (slack_at p nodes) new
+        → take at new.edges ≡ take at chosen.edges → LeavesInner p nodes old new → AreBounded (slack_at p (roles_by role_of) nodes) new
         → Limits (Beside (take at chosen.edges)) Blocks m → IsScanned p role_of nodes names old new at m
     dealt new m queued within same leaves bounded limits = record {
       limits = subst (λ ks. Limits (Beside ks) Blocks m) (sym same) limits;
@@ -215,16 +211,16 @@ module _ (p : Problem) (role_of : ℕ → Role) (nodes : List Node) (names : Lis
       bounded = bounded;
     }
 
-    bounded_chosen : AreBounded (slack_at p nodes) chosen
-    bounded_chosen = next.same.bounds (slack_at p nodes) scanned.bounded
+    bounded_chosen : AreBounded (slack_at p (roles_by role_of) nodes) chosen
+    bounded_chosen = next.same.bounds (slack_at p (roles_by role_of) nodes) scanned.bounded
 
-    bears_within : (x : ℕ) → x ≤ slack_at p nodes k → fits_within l x ≡ true
+    bears_within : (x : ℕ) → x ≤ slack_at p (roles_by role_of) nodes k → fits_within l x ≡ true
         → (m : ℕ) × (l ≡ Within m) × ((j : ℕ) → j ≤ m → Bears k j)
     bears_within x most fits =
         let (m, is, half) = fitting_bound l x fits in
         (m, is, λ j le. slack_bears p (roles_by role_of) nodes j k seen.dual seen.roles edge_within (omega (arith, le, half, most)))
 
-    passed : (x : ℕ) → x ≤ slack_at p nodes k → fits_within l x ≡ true → Limits (Beside (take at chosen.edges)) Blocks l
+    passed : (x : ℕ) → x ≤ slack_at p (roles_by role_of) nodes k → fits_within l x ≡ true → Limits (Beside (take at chosen.edges)) Blocks l
     passed x most fits =
         let (m, is, bears) = bears_within x most fits in
         limits_passed (Beside (take n w.edges)) (Beside (take at chosen.edges)) (Bears k) Blocks there back m l is bears scanned.limits
@@ -234,7 +230,7 @@ module _ (p : Problem) (role_of : ℕ → Role) (nodes : List Node) (names : Lis
         → IsScanned p role_of nodes names old chosen at l
     scanned_passed bound is fits =
         dealt chosen l refl (omega (arith, next.within)) refl still bounded_chosen
-        (passed bound (omega (arith, is, bounded_chosen at next.within, ap (slack_at p nodes) here)) fits)
+        (passed bound (omega (arith, is, bounded_chosen at next.within, ap (slack_at p (roles_by role_of) nodes) here)) fits)
 
     -- it is under one node, and is watched no longer
     pub scanned_left : (new : Watched) → AreDistinct chosen.edges → length chosen.bounds ≡ length chosen.edges
@@ -250,56 +246,56 @@ module _ (p : Problem) (role_of : ℕ → Role) (nodes : List Node) (names : Lis
         k still under refl
         (λ e. is_in_taken chosen.edges (swap_remove chosen.edges at 0) at k k next.within (sym here) distinct
         (here ∙ sym (get_or_default_zero chosen.edges at k next.within)) (taken_default chosen.edges at 0 k next.within) e))
-        (bounded_taken (slack_at p nodes) chosen at even next.within bounded_chosen)
+        (bounded_taken (slack_at p (roles_by role_of) nodes) chosen at even next.within bounded_chosen)
         (limits_unlimited (Beside (take n w.edges)) (Beside (take at chosen.edges)) (Bears k) Blocks there back l
         (λ j.
         edge_within_allows p (roles_by role_of) nodes j (edge_at p.edges k) seen.dual seen.roles
         (seen.dual.packing.fits k no_edge edge_within) under)
         scanned.limits))
 
-    -- its bound is set to at most its slack
-    module _ (new : Watched) (x y : ℕ) (slack : x ≡ slack_at p nodes k) (low : y ≤ x)
-        (is : new ≡ record chosen { bounds = set chosen.bounds at y }) where
-      set_to : (m : Look) → Limits (Beside (take at chosen.edges)) Blocks m → IsScanned p role_of nodes names old new at m
-      set_to m limits =
-          subst (λ v. IsScanned p role_of nodes names old v at m) (sym is)
-          (dealt (record chosen { bounds = set chosen.bounds at y }) m refl (omega (arith, next.within)) refl
-          (record { room = still.room; kept = still.kept; none_new = still.none_new })
-          (bounded_set (slack_at p nodes) chosen at y bounded_chosen (omega (arith, low, slack, ap (slack_at p nodes) here)))
-          limits)
-
-      -- and it bears what the others allow
-      pub scanned_bounded : fits_within l x ≡ true → IsScanned p role_of nodes names old new at l
-      scanned_bounded fits = set_to l (passed x (omega (arith, slack)) fits)
-
-      -- and it is looked at
-      pub scanned_more : (b both : Look) → b ≡ edge_look p role_of nodes k → both ≡ both_looks l b
-          → IsScanned p role_of nodes names old new at both
-      scanned_more b both looked joined =
-          set_to both
-          (subst (Limits (Beside (take at chosen.edges)) Blocks) (sym joined)
-          (limits_next (Beside (take n w.edges)) (Beside (take at chosen.edges)) (Bears k) Blocks there back l b scanned.limits
-          (edge_looked p role_of nodes k b seen.dual seen.roles seen.parity seen.limits edge_within looked)))
+    -- it is looked at, and its bound is set to at most what it bears
+    pub scanned_more : (new : Watched) (y bound : ℕ) (b both : Look) → b ≡ edge_look p role_of nodes k → bound ≤ bound_by b → y ≤ bound
+        → new ≡ record chosen { bounds = set chosen.bounds at y } → both ≡ both_looks l b
+        → IsScanned p role_of nodes names old new at both
+    scanned_more new y bound b both looked most low is joined =
+        subst (λ v. IsScanned p role_of nodes names old v at both) (sym is)
+        (dealt (record chosen { bounds = set chosen.bounds at y }) both refl (omega (arith, next.within)) refl
+        (record { room = still.room; kept = still.kept; none_new = still.none_new })
+        (bounded_set (slack_at p (roles_by role_of) nodes) chosen at y bounded_chosen
+        (omega (
+          arith,
+          low,
+          most,
+          ap bound_by looked,
+          look_bound p role_of nodes k,
+          ap (slack_at p (roles_by role_of) nodes) here,
+        )))
+        (subst (Limits (Beside (take at chosen.edges)) Blocks) (sym joined)
+        (limits_next (Beside (take n w.edges)) (Beside (take at chosen.edges)) (Bears k) Blocks there back l b scanned.limits
+        (edge_looked p role_of nodes k b seen.dual seen.roles seen.parity seen.limits edge_within looked))))
 
   -- Where there is an obstacle, it doesn't matter which edges were looked at.
   pub scanned_blocked : (new : Watched) (n : ℕ) (l : Look) (o : Obstacle) → l ≡ Blocked o
-      → IsScanned p role_of nodes names old new n l → LimitsBoth p (roles_by role_of) nodes names old.edges l
-  scanned_blocked new n l o is scanned =
-      limits_blocked (Beside (take n new.edges)) (λ j. All (BearsShrinking nodes j) names × All (λ k. Bears k j) old.edges)
-      Blocks l o is scanned.limits
+      → IsScanned p role_of nodes names old new n l → HasScanned p role_of nodes names old new l
+  scanned_blocked new n l o is scanned = record {
+    limits = limits_blocked (Beside (take n new.edges))
+        (λ j. All (BearsShrinking nodes j) names × All (λ k. Bears k j) old.edges) Blocks l o is scanned.limits;
+    watched = scanned.watched;
+    bounded = scanned.bounded;
+  }
 
   -- The bounds of all edges that are left suffice.
   module _ (new : Watched) (n : ℕ) (l : Look) (scanned : IsScanned p role_of nodes names old new n l)
       (fit : (i : ℕ) → i < n → fits_within l (get_or new.bounds i 0) ≡ true) where
     -- an edge that is left has a bound that suffices
-    sufficing : (k : ℕ) → is_in (take n new.edges) k ≡ true → (x : ℕ) × (x ≤ slack_at p nodes k) × (fits_within l x ≡ true)
+    sufficing : (k : ℕ) → is_in (take n new.edges) k ≡ true → (x : ℕ) × (x ≤ slack_at p (roles_by role_of) nodes k) × (fits_within l x ≡ true)
     sufficing k left =
-        is_in-All (λ e. (x : ℕ) × (x ≤ slack_at p nodes e) × (fits_within l x ≡ true)) (take n new.edges)
-        (All-from_get_or (λ e. (x : ℕ) × (x ≤ slack_at p nodes e) × (fits_within l x ≡ true)) (take n new.edges) 0
+        is_in-All (λ e. (x : ℕ) × (x ≤ slack_at p (roles_by role_of) nodes e) × (fits_within l x ≡ true)) (take n new.edges)
+        (All-from_get_or (λ e. (x : ℕ) × (x ≤ slack_at p (roles_by role_of) nodes e) × (fits_within l x ≡ true)) (take n new.edges) 0
         (λ i less.
         let before : i < n = omega (arith, less, length-take-le n new.edges scanned.within) in (
           get_or new.bounds i 0,
-          subst (λ e. get_or new.bounds i 0 ≤ slack_at p nodes e) (sym (get_or-take n new.edges i 0 before))
+          subst (λ e. get_or new.bounds i 0 ≤ slack_at p (roles_by role_of) nodes e) (sym (get_or-take n new.edges i 0 before))
               (scanned.bounded i (omega (arith, before, scanned.within))),
           fit i before,
         ))) k left
@@ -319,8 +315,8 @@ module _ (p : Problem) (role_of : ℕ → Role) (nodes : List Node) (names : Lis
         by k within true left = bears_left k j within short left
         by k within false out = known.1 k within out
 
-    pub scanned_all : LimitsBoth p (roles_by role_of) nodes names old.edges l
-    scanned_all = by l refl scanned.limits
+    pub scanned_all : HasScanned p role_of nodes names old new l
+    scanned_all = record { limits = by l refl scanned.limits; watched = scanned.watched; bounded = scanned.bounded }
       where
         by : (m : Look) → l ≡ m → Limits (Beside (take n new.edges)) Blocks m
             → Limits (λ j. All (BearsShrinking nodes j) names × All (λ k. Bears k j) old.edges) Blocks m

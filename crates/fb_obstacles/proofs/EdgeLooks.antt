@@ -1,5 +1,5 @@
 -- What a look at one edge tells.
-use Rattle.std.proofs.Common.{ℕ, ◌≡◌, ◌/◌, ◌%◌, ◌≤◌, ◌<◌, ◌==◌, ◌⊎◌, inl, inr, Bool, true, false, cond, List, length, Option, Some, None, refl, sym, ap, ◌∙◌, subst, arith}
+use Rattle.std.proofs.Common.{ℕ, ◌≡◌, ◌*◌, ◌/◌, ◌%◌, ◌≤◌, ◌<◌, ◌==◌, ◌⊎◌, inl, inr, Bool, true, false, cond, List, length, Option, Some, None, refl, sym, ap, ◌∙◌, subst, arith}
 use Rattle.std.proofs.lemmas.Bool.{false≢true, cases_eq, both_ways, eqb-true, false_from_ne_true, eq-eqb}
 use Rattle.fb_graph.specs.Problem.{Problem, edge_at, no_edge}
 use Rattle.fb_graph.specs.Certificate.{load_of}
@@ -18,8 +18,9 @@ use Rattle.fb_obstacles.specs.declared.obstacle.Obstacle.TheVariants as obstacle
 use Rattle.fb_obstacles.specs.declared.looking.Look.TheVariants.{Within, Blocked}
 use Rattle.fb_obstacles.specs.declared.ends.Cover.{Cover}
 use Rattle.fb_obstacles.specs.declared.ends.Cover.TheVariants.{Plus, Minus, Out, Bare, Virtual}
-use Rattle.fb_obstacles.specs.Obstacles.{BearsStep, IsTightFrom, Obstructs, grows, residue_of, roles_by, shrinks}
-use Rattle.fb_obstacles.specs.InternalLooks.{cover_in_role, cover_by, cover_at, far_end, bounded_look, look_if, edge_look, Limits}
+use Rattle.fb_obstacles.specs.Obstacles.{BearsStep, IsTightFrom, Obstructs, grows, most_of, residue_of, roles_by, shrinks, slack_at, slack_by}
+use Rattle.fb_obstacles.specs.InnerEdges.{is_inner, is_one_node}
+use Rattle.fb_obstacles.specs.InternalLooks.{cover_in_role, cover_by, cover_at, far_end, bound_by, bounded_look, look_if, edge_look, Limits}
 
 -- what the cover of a vertex says of it
 abbrev Covers : Problem → Roles → List Node → ℕ → Cover → Type 0
@@ -335,3 +336,74 @@ edge_limits p role_of nodes r k dual are parity even less = split (under_or_not 
     split (inr differs) =
         core differs (cover_at p role_of nodes e.first) (cover_at p role_of nodes e.second) (covers p role_of nodes e.first)
         (covers p role_of nodes e.second)
+
+-- What a look says that an edge bears is at most its slack.
+pub look_bound : (p : Problem) (role_of : ℕ → Role) (nodes : List Node) (k : ℕ)
+    → bound_by (edge_look p role_of nodes k) ≤ slack_at p (roles_by role_of) nodes k
+look_bound p role_of nodes k =
+    by (is_inner nodes e) (cover_at p role_of nodes e.first) (cover_at p role_of nodes e.second) (covers p role_of nodes e.first)
+    (covers p role_of nodes e.second) refl
+  where
+    e : Edge
+    e = edge_at p.edges k
+
+    residue : ℕ
+    residue = residue_of nodes e
+
+    most : ℕ
+    most = most_of e
+
+    bounded : (bound : ℕ) (o : Obstacle) → bound_by (bounded_look bound o) ≤ 2 * bound
+    bounded bound o = step (bound == 0)
+      where
+        step : (b : Bool) → bound_by (cond b (Blocked o) (Within bound)) ≤ 2 * bound
+        step true = omega arith
+        step false = omega arith
+
+    any : (far : Option Cover) → bound_by (look_if far residue k) ≤ most
+    any None = omega arith
+    any (Some (Plus n)) = omega (arith, bounded (residue / 2) (obstacle.PlusPair k))
+    any (Some Minus) = omega arith
+    any (Some Out) = omega (arith, bounded residue (obstacle.Meet k))
+    any (Some Bare) = omega (arith, bounded residue (obstacle.Absorb k))
+    any (Some Virtual) = omega (arith, bounded residue (obstacle.Boundary k))
+
+    pair : (m n : ℕ) → (m == n) ≡ false → bound_by (look_if (far_end (Plus m) (Plus n)) residue k) ≤ residue
+    pair m n other =
+        subst (λ b. bound_by (look_if (cond b None (Some (Plus n))) residue k) ≤ residue) (sym other)
+        (omega (arith, bounded (residue / 2) (obstacle.PlusPair k)))
+
+    core : (a b : Cover) → ((m n : ℕ) → a ≡ Plus m → b ≡ Plus n → (m == n) ≡ false)
+        → bound_by (look_if (far_end a b) residue k)
+        ≤ slack_by false (under_plus a) (under_plus b) (under_minus a) (under_minus b) residue most
+    core (Plus m) (Plus n) apart = pair m n (apart m n refl refl)
+    core (Plus m) Minus apart = any None
+    core (Plus m) Out apart = bounded residue (obstacle.Meet k)
+    core (Plus m) Bare apart = bounded residue (obstacle.Absorb k)
+    core (Plus m) Virtual apart = bounded residue (obstacle.Boundary k)
+    core Minus (Plus n) apart = any None
+    core Out (Plus n) apart = bounded residue (obstacle.Meet k)
+    core Bare (Plus n) apart = bounded residue (obstacle.Absorb k)
+    core Virtual (Plus n) apart = bounded residue (obstacle.Boundary k)
+    core a b apart = any (far_end a b)
+
+    by : (inner : Bool) (a b : Cover) → Covers p (roles_by role_of) nodes e.first a → Covers p (roles_by role_of) nodes e.second b
+        → is_inner nodes e ≡ inner
+        → bound_by (look_if (far_end a b) residue k)
+        ≤ slack_by inner (is_covered_by (roles_by role_of).is_plus nodes e.first) (is_covered_by (roles_by role_of).is_plus nodes e.second)
+        (is_covered_by (roles_by role_of).is_minus nodes e.first) (is_covered_by (roles_by role_of).is_minus nodes e.second) residue most
+    by true a b first second is = any (far_end a b)
+    by false a b first second is =
+        rw (
+          plus_over p role_of nodes e.first a first,
+          plus_over p role_of nodes e.second b second,
+          minus_over p role_of nodes e.first a first,
+          minus_over p role_of nodes e.second b second,
+        ) (core a b (apart a b first second))
+      where
+        apart : (a b : Cover) → Covers p (roles_by role_of) nodes e.first a → Covers p (roles_by role_of) nodes e.second b
+            → (m n : ℕ) → a ≡ Plus m → b ≡ Plus n → (m == n) ≡ false
+        apart a b first second m n one other =
+            let here : Covers p (roles_by role_of) nodes e.first (Plus m) = subst (Covers p (roles_by role_of) nodes e.first) one first in
+            let there : Covers p (roles_by role_of) nodes e.second (Plus n) = subst (Covers p (roles_by role_of) nodes e.second) other second in
+            sym (ap (λ o. is_one_node o (cover_of nodes e.second)) here.0 ∙ ap (is_one_node (Some m)) there.0) ∙ is

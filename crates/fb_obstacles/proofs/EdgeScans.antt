@@ -7,17 +7,9 @@ use Rattle.fb_graph.specs.Covers.{AreRoles}
 use Rattle.fb_regions.specs.declared.roles.Role.{Role}
 use Rattle.fb_obstacles.specs.declared.looking.Look.{Look}
 use Rattle.fb_obstacles.specs.Obstacles.{BearsStep, HavePlusParity, Obstructs, roles_by}
-use Rattle.fb_obstacles.specs.InternalLooks.{edge_look, both_looks, Limits}
+use Rattle.fb_obstacles.specs.InternalLooks.{IsSeen, edge_look, both_looks, Limits}
 use Rattle.fb_obstacles.proofs.EdgeLooks.{edge_limits}
 use Rattle.fb_obstacles.proofs.LookLimits.{limits_more}
-
--- the state that the edges are looked at in
-pub record IsSeen (p : Problem) (role_of : ℕ → Role) (nodes : List Node) (ks : List ℕ) : Type 0 where
-  pub dual : IsDual p nodes
-  pub roles : AreRoles (roles_by role_of) nodes
-  pub parity : HavePlusParity (roles_by role_of) nodes
-  pub limits : IsWithinLimits p
-  pub within : All (λ k. k < length p.edges) ks
 
 -- what a look at one edge tells
 pub edge_looked : (p : Problem) (role_of : ℕ → Role) (nodes : List Node) (k : ℕ) (l : Look) → IsDual p nodes

@@ -7,9 +7,9 @@ use Rattle.fb_graph.specs.declared.parts.Edge.{Edge}
 use Rattle.fb_regions.specs.declared.roles.Role.{Role}
 use Rattle.fb_obstacles.specs.declared.ends.Ends.{Ends}
 use Rattle.fb_obstacles.specs.declared.looking.Look.{Look}
-use Rattle.fb_obstacles.specs.Obstacles.{residue_at, slack_at}
+use Rattle.fb_obstacles.specs.Obstacles.{residue_at}
 use Rattle.fb_obstacles.specs.InnerEdges.{is_one_node}
-use Rattle.fb_obstacles.specs.InternalLooks.{AreEnds, cover_at, edge_look, far_by, far_end, look_if, node_by, residue_by, slack_by}
+use Rattle.fb_obstacles.specs.InternalLooks.{AreEnds, cover_at, edge_look, far_by, far_end, look_if, node_by, residue_by}
 
 -- the names are of one node only where one name is both
 pub same_node : (a b : Option ℕ) → is_one_node a b ≡ true → (name : ℕ) × (a ≡ Some name) × (b ≡ Some name)
@@ -30,13 +30,6 @@ pub residue_by_ends : (p : Problem) (nodes : List Node) (k weight x : ℕ) (ends
     → x ≡ residue_by ends weight → x ≡ residue_at p nodes k
 residue_by_ends p nodes k weight x ends known weighs is =
     omega (arith, is, weighs, known.first.potential, known.second.potential)
-
--- the slack by the known ends is that of the edge
-pub slack_by_ends : (p : Problem) (nodes : List Node) (k residue x : ℕ) (ends : Ends)
-    → AreEnds nodes (edge_at p.edges k) ends → residue ≡ residue_at p nodes k → x ≡ slack_by ends residue
-    → x ≡ slack_at p nodes k
-slack_by_ends p nodes k residue x ends known same is =
-    is ∙ (ap (slack_by ends) same ∙ rw (known.first.node, known.second.node) refl)
 
 -- what a plus node grows towards, by the known ends
 far_by_ends : (p : Problem) (role_of : ℕ → Role) (nodes : List Node) (e : Edge) (ends : Ends) → AreEnds nodes e ends

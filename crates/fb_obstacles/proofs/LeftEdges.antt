@@ -1,22 +1,23 @@
 -- The watch after a node absorbs a vertex: edges between two vertices of the node leave it.
-use Rattle.std.proofs.Common.{ℕ, ◌≡◌, ◌==◌, ◌+◌, ◌<◌, ◌≤◌, ◌||◌, Bool, true, false, not, List, [], ◌∷◌, ◌++◌, filter, get_or, length, take, refl, sym, ap, ◌∙◌, subst, if◌then◌else◌, ◌/◌, ◌&&◌, ◌⊎◌, inl, inr, le_refl, arith}
-use Rattle.std.proofs.Math.Bool.{and-true}
+use Rattle.std.proofs.Common.{ℕ, ◌≡◌, ◌==◌, ◌+◌, ◌<◌, ◌≤◌, ◌||◌, Bool, true, false, not, List, [], ◌∷◌, ◌++◌, filter, get_or, length, take, refl, sym, ap, ◌∙◌, subst, if◌then◌else◌, ◌&&◌, ◌⊎◌, inl, inr, arith}
+use Rattle.std.proofs.Math.Bool.{and-true, or-false, or-true}
 use Rattle.std.specs.List.{range_with_len}
-use Rattle.std.proofs.lemmas.List.{take_all, take_more, get_or_past}
-use Rattle.std.proofs.lemmas.Bool.{and_right, both_ways, cases_eq, cases_lt, cond-false, cond-true, eq-eqb, ne_eqb}
-use Rattle.fb_graph.proofs.Sets.{is_in_at}
+use Rattle.std.proofs.lemmas.List.{take_all, take_more}
+use Rattle.std.proofs.lemmas.Bool.{and_right, both_ways, cases_eq, cond-false, cond-true, eq-eqb, false≢true, ne_eqb}
+use Rattle.fb_graph.proofs.Sets.{equal_sym, is_in_at}
 use Rattle.fb_graph.specs.Parity.{is_in}
-use Rattle.fb_graph.specs.Problem.{Problem, edge_at, touches, no_edge}
+use Rattle.fb_graph.specs.Problem.{Problem, edge_at, touches}
 use Rattle.fb_graph.specs.Dual.{AreUnderOne, Node, cover_of}
 use Rattle.fb_graph.specs.declared.parts.Edge.{Edge}
 use Rattle.fb_graph.proofs.Members.{is_in_push}
 use Rattle.fb_graph.proofs.Ranges.{is_in-filter-range}
-use Rattle.fb_graph.proofs.ParitySums.{differ_self}
 use Rattle.fb_obstacles.specs.InnerEdges.{is_inner}
 use Rattle.fb_obstacles.specs.Watched.{Watched, AreBounded}
 use Rattle.fb_obstacles.proofs.HeldEnds.{same_node}
+use Rattle.fb_obstacles.specs.InternalWatch.{StaysRight}
 use Rattle.fb_obstacles.specs.InternalWatching.{WatchesOuter, WatchesTaken}
-use Rattle.fb_obstacles.proofs.WatchSteps.{bounded_by}
+use Rattle.fb_obstacles.proofs.ForgottenBounds.{right_twice}
+use Rattle.fb_obstacles.proofs.WatchSteps.{bounded_by, untouched}
 
 -- an edge whose ends aren't under one node is not inner
 pub outer_edge : (nodes : List Node) (e : Edge) → ¬ AreUnderOne nodes e.first e.second → is_inner nodes e ≡ false
@@ -28,7 +29,7 @@ outer_edge nodes e apart = by (is_inner nodes e) refl
 
 -- edge after edge
 pub watched_first : (p : Problem) (nodes : List Node) (w : Watched) → WatchesOuter p nodes [] w w
-watched_first p nodes w = record { room = refl; watched = λ k. refl; bounds = λ limit right. right }
+watched_first p nodes w = record { room = refl; watched = λ k. refl; bounds = λ before after less right. bounded_by before after w (λ k. less k refl) right }
 
 pub watched_more : (p : Problem) (nodes : List Node) (edges : List ℕ) (i : ℕ) (a b c : Watched) → i < length edges
     → WatchesOuter p nodes (take i edges) a b → WatchesOuter p nodes (get_or edges i 0 ∷ []) b c
@@ -37,14 +38,10 @@ watched_more p nodes edges i a b c lt before more =
     subst (λ l. WatchesOuter p nodes l a c) (sym (take_more edges i 0 lt)) (record {
       room = more.room ∙ before.room;
       watched = by;
-      bounds = λ limit right.
-          bounded_by
-          (λ k. if is_in (get_or edges i 0 ∷ []) k then (if is_in (take i edges) k then limit k / 2 else limit k) / 2 else (if is_in (take i edges) k then limit k / 2 else limit k))
-          (λ k. if is_in (take i edges ++ get_or edges i 0 ∷ []) k then limit k / 2 else limit k) c
-          (λ k. subst (λ b. (if is_in (get_or edges i 0 ∷ []) k then (if is_in (take i edges) k then limit k / 2 else limit k) / 2 else (if is_in (take i edges) k then limit k / 2 else limit k))
-          ≤ (if b then limit k / 2 else limit k)) (sym (is_in_push (take i edges) (get_or edges i 0) k))
-          (lesser (get_or edges i 0 == k) (is_in (take i edges) k) (limit k)))
-          (more.bounds (λ k. if is_in (take i edges) k then limit k / 2 else limit k) (before.bounds limit right));
+      bounds =
+          right_twice (λ k. is_in (take i edges) k ≡ false) (λ k. is_in (take i edges ++ get_or edges i 0 ∷ []) k ≡ false)
+          (is_in (get_or edges i 0 ∷ [])) a b c (λ k here before. is_in_push (take i edges) (get_or edges i 0) k ∙ neither (get_or edges i 0 == k) (is_in (take i edges) k) here before)
+          before.bounds more.bounds;
     })
   where
     both : (e h x y : Bool) → (if e || false then x else (if h then x else y)) ≡ (if h || e then x else y)
@@ -53,12 +50,9 @@ watched_more p nodes edges i a b c lt before more =
     both false true x y = refl
     both false false x y = refl
 
-    lesser : (e h : Bool) (x : ℕ)
-        → (if e || false then (if h then x / 2 else x) / 2 else (if h then x / 2 else x)) ≤ (if h || e then x / 2 else x)
-    lesser true true x = omega arith
-    lesser true false x = omega arith
-    lesser false true x = omega arith
-    lesser false false x = omega arith
+    neither : (e h : Bool) → (e || false) ≡ false → h ≡ false → (h || e) ≡ false
+    neither true h here before = absurd (false≢true (sym here))
+    neither false h here before = ap (λ x. x || false) before
 
     by : (k : ℕ) → is_in c.edges k
         ≡ (if is_in (take i edges ++ get_or edges i 0 ∷ []) k then not (is_inner nodes (edge_at p.edges k)) else is_in a.edges k)
@@ -80,9 +74,12 @@ pub watched_left : (p : Problem) (nodes : List Node) (edge : ℕ) (old new : Wat
 watched_left p nodes edge old new inner room left bounds = record {
   room = room;
   watched = λ k. left k ∙ by k (cases_eq k edge);
-  bounds = λ limit right i less.
-      subst (λ b. get_or new.bounds i 0 ≤ (if b || false then limit (get_or new.edges i 0) / 2 else limit (get_or new.edges i 0)))
-      (sym (elsewhere i less)) (bounds limit right i less);
+  bounds = λ before after less right i inside.
+      omega (
+        arith,
+        bounds before right i inside,
+        less (get_or new.edges i 0) (ap (λ b. b || false) (elsewhere i inside)),
+      );
 }
   where
     by : (k : ℕ) → (k ≡ edge) ⊎ (k ≡ edge → ⊥) → (is_in old.edges k && not (k == edge))
@@ -99,34 +96,39 @@ watched_left p nodes edge old new inner room left bounds = record {
         (left edge ∙ (ap (λ b. is_in old.edges edge && not b) (eq-eqb edge edge refl) ∙ and_right (is_in old.edges edge) false refl))
         (ap (is_in new.edges) same ∙ is_in_at new.edges i 0 less))
 
+-- another edge is watched
+pub watched_entered : (p : Problem) (nodes : List Node) (edge : ℕ) (old new : Watched)
+    → is_inner nodes (edge_at p.edges edge) ≡ false → new.edge_count ≡ old.edge_count
+    → ((k : ℕ) → is_in new.edges k ≡ (is_in old.edges k || (k == edge)))
+    → StaysRight (λ k. (k == edge) ≡ false) old new → WatchesOuter p nodes (edge ∷ []) old new
+watched_entered p nodes edge old new outer room entered right = record {
+  room = room;
+  watched = λ k. entered k ∙ by k (cases_eq k edge);
+  bounds = λ before after less. right before after (λ k other. less k (here k other));
+}
+  where
+    here : (k : ℕ) → (k == edge) ≡ false → ((edge == k) || false) ≡ false
+    here k other = ap (λ b. b || false) (equal_sym edge k ∙ other)
+
+    by : (k : ℕ) → (k ≡ edge) ⊎ (k ≡ edge → ⊥) → (is_in old.edges k || (k == edge))
+        ≡ (if (edge == k) || false then not (is_inner nodes (edge_at p.edges k)) else is_in old.edges k)
+    by k (inl same) =
+        rw (eq-eqb k edge same, eq-eqb edge k (sym same))
+        (or-true (is_in old.edges k) ∙ sym (ap (λ b. not b) (ap (λ j. is_inner nodes (edge_at p.edges j)) same ∙ outer)))
+    by k (inr other) = rw (ne_eqb k edge other, ne_eqb edge k (λ e. other (sym e))) (or-false (is_in old.edges k))
+
 -- the edges at a vertex
 pub taken_watched : (p : Problem) (nodes : List Node) (v : ℕ) (edges : List ℕ) (old new : Watched)
     → edges ≡ filter (λ k. touches v (edge_at p.edges k)) (range_with_len 0 (length p.edges))
     → WatchesOuter p nodes edges old new → WatchesTaken p nodes v old new
 taken_watched p nodes v edges old new e outer = record {
   room = outer.room;
-  bounds = λ limit right.
-      bounded_by (λ k. if is_in edges k then limit k / 2 else limit k)
-      (λ k. if touches v (edge_at p.edges k) then limit k / 2 else limit k) new
-      (λ k. more k (limit k) (cases_lt k (length p.edges))) (outer.bounds limit right);
+  bounds = λ before after less. outer.bounds before after (λ k out. less k (untouched p v edges k e out));
   watched = λ k less.
       outer.watched k
       ∙ ap (λ t. if t then not (is_inner nodes (edge_at p.edges k)) else is_in old.edges k)
       (ap (λ l. is_in l k) e ∙ is_in-filter-range (λ j. touches v (edge_at p.edges j)) (length p.edges) k less);
 }
-  where
-    more : (k x : ℕ) → (k < length p.edges) ⊎ (length p.edges ≤ k)
-        → (if is_in edges k then x / 2 else x) ≤ (if touches v (edge_at p.edges k) then x / 2 else x)
-    more k x (inl less) =
-        rw (ap (λ l. is_in l k) e ∙ is_in-filter-range (λ j. touches v (edge_at p.edges j)) (length p.edges) k less) (le_refl _)
-    more k x (inr past) = rw (nowhere v (edge_at p.edges k) (get_or_past p.edges k no_edge past)) (half (is_in edges k))
-      where
-        half : (b : Bool) → (if b then x / 2 else x) ≤ x
-        half true = omega arith
-        half false = omega arith
-
-        nowhere : (v : ℕ) (e : Edge) → e ≡ no_edge → touches v e ≡ false
-        nowhere v e is = ap (touches v) is ∙ differ_self (v == 0)
 
 module _ (p : Problem) (nodes : List Node) (v : ℕ) (old new : Watched) (taken : WatchesTaken p nodes v old new) (k : ℕ)
     (less : k < length p.edges) where

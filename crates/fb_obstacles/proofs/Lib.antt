@@ -5,7 +5,7 @@ pub mod EdgeLooks
 pub mod EdgeScans
 pub mod EnteredEdges
 pub mod FirstEntries
-pub mod HalvedBounds
+pub mod ForgottenBounds
 pub mod HeldEnds
 pub mod LeftEdges
 pub mod LookLimits

@@ -1,16 +1,18 @@
 -- Edges that come under watch, vertex after vertex, and a node's vertices passed over from the last one back.
-use Rattle.std.proofs.Common.{ℕ, ◌≡◌, ◌+◌, ◌<◌, ◌≤◌, ◌⊎◌, inl, inr, Bool, true, false, List, [], ◌∷◌, ◌++◌, length, take, filter, get_or, refl, sym, ap, ◌∙◌, subst, arith, length-append, if◌then◌else◌, reverse, Option, Some, append-nil, append_assoc}
+use Rattle.std.proofs.Common.{ℕ, ◌≡◌, ◌+◌, ◌<◌, ◌≤◌, ◌==◌, ◌||◌, ◌⊎◌, inl, inr, true, false, List, [], ◌∷◌, ◌++◌, length, take, filter, get_or, refl, sym, ap, ◌∙◌, arith, reverse, Option, Some, append-nil, append_assoc}
 use Rattle.std.specs.List.{range_with_len}
-use Rattle.std.proofs.lemmas.Bool.{cases_lt, false≢true, or_right}
-use Rattle.std.proofs.lemmas.List.{get_or_append_left, get_or_push, reverse-append, reverse-reverse}
+use Rattle.std.proofs.lemmas.Bool.{cases_lt, eq-eqb, false≢true, or_right}
+use Rattle.std.proofs.lemmas.List.{get_or_past, reverse-append, reverse-reverse, take_more}
 use Rattle.fb_graph.specs.Parity.{is_in}
-use Rattle.fb_graph.specs.Problem.{Problem, edge_at, touches}
-use Rattle.fb_graph.proofs.Members.{is_in_pushed, is_in-take_more, is_in-append}
+use Rattle.fb_graph.specs.Problem.{Problem, edge_at, no_edge, touches}
+use Rattle.fb_graph.proofs.Members.{is_in_push, is_in-take_more, is_in-append}
+use Rattle.fb_graph.proofs.ParitySums.{differ_self}
 use Rattle.fb_graph.proofs.Ranges.{is_in-filter-range}
-use Rattle.fb_graph.proofs.Sets.{is_in-cases, is_in-head}
+use Rattle.fb_graph.proofs.Sets.{equal_sym, is_in-cases, is_in-head}
 use Rattle.fb_obstacles.specs.Watched.{AreBounded, Watched}
+use Rattle.fb_obstacles.specs.InternalWatch.{StaysRight}
 use Rattle.fb_obstacles.specs.InternalWatching.{Enters, Watches}
-use Rattle.fb_graph.proofs.Floods.{is_in-left}
+use Rattle.fb_obstacles.proofs.ForgottenBounds.{right_twice}
 use Rattle.fb_regions.specs.Listed.{back_from, listed_before}
 
 -- bounds are right for greater limits too
@@ -19,21 +21,16 @@ pub bounded_by : (old new : ℕ → ℕ) (watched : Watched) → ((k : ℕ) → 
 bounded_by old new watched more bounds i less =
     omega (arith, bounds i less, more (get_or watched.edges i 0))
 
--- the watched edges with one more, which has no bound yet
-abbrev with_edge : Watched → ℕ → Watched
-with_edge w edge = record w { edges = w.edges ++ edge ∷ []; bounds = w.bounds ++ 0 ∷ [] }
-
-bounded_entered : (limit : ℕ → ℕ) (w : Watched) (edge : ℕ) → length w.bounds ≡ length w.edges → AreBounded limit w
-    → AreBounded limit (with_edge w edge)
-bounded_entered limit w edge even bounds i less = by (cases_lt i (length w.edges))
+-- an edge that isn't listed at the vertex doesn't touch it
+pub untouched : (p : Problem) (v : ℕ) (es : List ℕ) (k : ℕ)
+    → es ≡ filter (λ k. touches v (edge_at p.edges k)) (range_with_len 0 (length p.edges)) → is_in es k ≡ false
+    → touches v (edge_at p.edges k) ≡ false
+untouched p v es k e out = by (cases_lt k (length p.edges))
   where
-    by : (i < length w.edges) ⊎ (length w.edges ≤ i) → get_or (w.bounds ++ 0 ∷ []) i 0 ≤ limit (get_or (w.edges ++ edge ∷ []) i 0)
-    by (inl before) =
-        let here : i < length w.bounds = omega (arith, even) in
-        rw (get_or_append_left w.bounds (0 ∷ []) 0 i here, get_or_append_left w.edges (edge ∷ []) 0 i before) (bounds i before)
-    by (inr after) =
-        let last : length w.bounds ≡ i = omega (arith, even, length-append w.edges (edge ∷ [])) in
-        omega (arith, get_or_push w.bounds 0 0 i last)
+    by : (k < length p.edges) ⊎ (length p.edges ≤ k) → touches v (edge_at p.edges k) ≡ false
+    by (inl less) =
+        sym (ap (λ l. is_in l k) e ∙ is_in-filter-range (λ j. touches v (edge_at p.edges j)) (length p.edges) k less) ∙ out
+    by (inr past) = ap (touches v) (get_or_past p.edges k no_edge past) ∙ differ_self (v == 0)
 
 -- vertex after vertex
 pub watched_none : (p : Problem) (w : Watched) → Watches p [] w w
@@ -41,7 +38,8 @@ watched_none p w = record {
   room = refl;
   kept = λ k h. h;
   near = λ v k mem below touch. absurd (false≢true mem);
-  bounds = λ limit right. right;
+  bounds = λ before after less right.
+      bounded_by before after w (λ k. less k (λ v mem. absurd (false≢true mem))) right;
 }
 
 -- the edges at one vertex more
@@ -50,7 +48,10 @@ pub watched_more : (p : Problem) (vs : List ℕ) (v : ℕ) (es : List ℕ) (a b 
     → Watches p vs a b → Enters es b c → Watches p (v ∷ vs) a c
 watched_more p vs v es a b c e before more = record {
   room = more.room ∙ before.room;
-  bounds = λ limit right. more.bounds limit (before.bounds limit right);
+  bounds =
+      right_twice (λ k. (u : ℕ) → is_in vs u ≡ true → touches u (edge_at p.edges k) ≡ false)
+      (λ k. (u : ℕ) → is_in (v ∷ vs) u ≡ true → touches u (edge_at p.edges k) ≡ false) (is_in es) a b c away before.bounds
+      more.bounds;
   kept = λ k h. more.kept k (before.kept k h);
   near = λ u k mem below touch. near u k below touch (is_in-cases v vs u mem);
 }
@@ -62,36 +63,39 @@ watched_more p vs v es a b c e before more = record {
         ∙ ap (λ w. touches w (edge_at p.edges k)) same ∙ touch))
     near u k below touch (inr old) = more.kept k (before.near u k old below touch)
 
+    away : (k : ℕ) → is_in es k ≡ false → ((u : ℕ) → is_in vs u ≡ true → touches u (edge_at p.edges k) ≡ false)
+        → (u : ℕ) → is_in (v ∷ vs) u ≡ true → touches u (edge_at p.edges k) ≡ false
+    away k out none u mem = by (is_in-cases v vs u mem)
+      where
+        by : (v ≡ u) ⊎ (is_in vs u ≡ true) → touches u (edge_at p.edges k) ≡ false
+        by (inl same) = ap (λ w. touches w (edge_at p.edges k)) (sym same) ∙ untouched p v es k e out
+        by (inr old) = none u old
+
 -- one edge more
-pub entered_on : (edges : List ℕ) (i : ℕ) (a b c : Watched) → i < length edges → length b.bounds ≡ length b.edges
-    → c ≡ (if is_in b.edges (get_or edges i 0) then b else with_edge b (get_or edges i 0))
-    → Enters (take i edges) a b → Enters (take (i + 1) edges) a c
-entered_on edges i a b c lt even is before =
-    subst (λ w. Enters (take (i + 1) edges) a w) (sym is) (by (is_in b.edges (get_or edges i 0)) refl)
+pub entered_on : (edges : List ℕ) (i : ℕ) (a b c : Watched) → i < length edges → c.edge_count ≡ b.edge_count
+    → ((k : ℕ) → is_in c.edges k ≡ (is_in b.edges k || (k == get_or edges i 0)))
+    → StaysRight (λ k. (k == get_or edges i 0) ≡ false) b c → Enters (take i edges) a b → Enters (take (i + 1) edges) a c
+entered_on edges i a b c lt room entered right before = record {
+  room = room ∙ before.room;
+  kept = λ k h. still k (before.kept k h);
+  entered = λ k mem. by k (is_in-take_more edges i k lt mem);
+  bounds =
+      right_twice (λ k. is_in (take i edges) k ≡ false) (λ k. is_in (take (i + 1) edges) k ≡ false)
+      (λ k. k == get_or edges i 0) a b c out before.bounds right;
+}
   where
-    by : (x : Bool) → is_in b.edges (get_or edges i 0) ≡ x
-        → Enters (take (i + 1) edges) a (if x then b else with_edge b (get_or edges i 0))
-    by true held = record {
-      room = before.room;
-      kept = before.kept;
-      entered = λ k mem. here k (is_in-take_more edges i k lt mem);
-      bounds = before.bounds;
-    }
-      where
-        here : (k : ℕ) → (is_in (take i edges) k ≡ true) ⊎ (get_or edges i 0 ≡ k) → is_in b.edges k ≡ true
-        here k (inl old) = before.entered k old
-        here k (inr same) = ap (is_in b.edges) (sym same) ∙ held
-    by false absent = record {
-      room = before.room;
-      kept = λ k mem. is_in-left b.edges (get_or edges i 0 ∷ []) k (before.kept k mem);
-      entered = λ k mem. here k (is_in-take_more edges i k lt mem);
-      bounds = λ limit right. bounded_entered limit b (get_or edges i 0) even (before.bounds limit right);
-    }
-      where
-        here : (k : ℕ) → (is_in (take i edges) k ≡ true) ⊎ (get_or edges i 0 ≡ k)
-            → is_in (b.edges ++ get_or edges i 0 ∷ []) k ≡ true
-        here k (inl old) = is_in-left b.edges (get_or edges i 0 ∷ []) k (before.entered k old)
-        here k (inr same) = ap (is_in (b.edges ++ get_or edges i 0 ∷ [])) (sym same) ∙ is_in_pushed b.edges (get_or edges i 0)
+    still : (k : ℕ) → is_in b.edges k ≡ true → is_in c.edges k ≡ true
+    still k h = entered k ∙ ap (λ x. x || (k == get_or edges i 0)) h
+
+    by : (k : ℕ) → (is_in (take i edges) k ≡ true) ⊎ (get_or edges i 0 ≡ k) → is_in c.edges k ≡ true
+    by k (inl old) = still k (before.entered k old)
+    by k (inr same) = entered k ∙ or_right (is_in b.edges k) (k == get_or edges i 0) (eq-eqb k (get_or edges i 0) (sym same))
+
+    out : (k : ℕ) → (k == get_or edges i 0) ≡ false → is_in (take i edges) k ≡ false → is_in (take (i + 1) edges) k ≡ false
+    out k other absent =
+        ap (λ l. is_in l k) (take_more edges i 0 lt)
+        ∙ (is_in_push (take i edges) (get_or edges i 0) k
+        ∙ (ap (λ x. x || (get_or edges i 0 == k)) absent ∙ (equal_sym (get_or edges i 0) k ∙ other)))
 
 -- all vertices behind the next one are passed, and the edges at them watched
 pub record ArePassed (p : Problem) (vs : List ℕ) (next : Option ℕ) (old new : Watched) : Type 0 where

@@ -1,8 +1,10 @@
 -- How the edges and minus nodes are looked at.
-use Rattle.std.specs.Prelude.{ℕ, ◌≡◌, ◌+◌, ◌-◌, ◌*◌, ◌/◌, ◌≤◌, ◌==◌, ◌&&◌, Bool, true, false, min, nat_lt, nat_le, List, length, All, Option, Some, None, option_map, is_some, if◌then◌else◌}
+use Rattle.std.specs.Prelude.{ℕ, ◌≡◌, ◌+◌, ◌-◌, ◌*◌, ◌/◌, ◌^◌, ◌<◌, ◌≤◌, ◌==◌, Bool, true, false, min, nat_lt, nat_le, List, length, All, Option, Some, None, option_map, if◌then◌else◌}
 use Rattle.fb_graph.specs.Parity.{is_in}
 use Rattle.fb_graph.specs.Problem.{Problem, edge_at}
-use Rattle.fb_graph.specs.Dual.{Node, cover_of, is_empty, layers_at}
+use Rattle.fb_graph.specs.Limits.{IsWithinLimits}
+use Rattle.fb_graph.specs.Covers.{AreRoles}
+use Rattle.fb_graph.specs.Dual.{IsDual, Node, cover_of, is_empty, layers_at}
 use Rattle.fb_graph.specs.Steps.{Roles}
 use Rattle.fb_graph.specs.declared.parts.Edge.{Edge}
 use Rattle.fb_regions.specs.Holders.{IsHolder, potential_by}
@@ -10,7 +12,9 @@ use Rattle.fb_regions.specs.Moves.{node_named}
 use Rattle.fb_regions.specs.declared.regions.Holder.{Holder}
 use Rattle.fb_regions.specs.declared.roles.Role.{Role}
 use Rattle.fb_regions.specs.declared.roles.Role.TheVariants as role
-use Rattle.fb_obstacles.specs.Obstacles.{BearsStep, Obstructs, residue_at}
+use Rattle.fb_obstacles.specs.Obstacles.{BearsStep, HavePlusParity, Obstructs, residue_at, roles_by, slack_at}
+use Rattle.fb_obstacles.specs.InnerEdges.{LeavesInner}
+use Rattle.fb_obstacles.specs.Watched.{AreBounded, Watched}
 use Rattle.fb_obstacles.specs.declared.obstacle.Obstacle.{Obstacle}
 use Rattle.fb_obstacles.specs.declared.obstacle.Obstacle.TheVariants as obstacle
 use Rattle.fb_obstacles.specs.declared.looking.Look.{Look}
@@ -42,10 +46,6 @@ pub record AreEnds (nodes : List Node) (e : Edge) (ends : Ends) : Type 0 where
 -- the weight of an edge with these ends less the potentials of both
 abbrev pub residue_by : Ends → ℕ → ℕ
 residue_by ends weight = weight - (potential_by ends.first + potential_by ends.second)
-
--- the slack of an edge with these ends and this residue
-abbrev pub slack_by : Ends → ℕ → ℕ
-slack_by ends residue = if is_some (node_by ends.first) && is_some (node_by ends.second) then residue else 2 * residue
 
 abbrev pub cover_at : Problem → (ℕ → Role) → List Node → ℕ → Cover
 cover_at p role_of nodes v = cover_by role_of (p.is_real v) (cover_of nodes v)
@@ -110,6 +110,20 @@ fits_within (Within bound) slack = nat_le bound (slack / 2)
 fits_within Clear slack = false
 fits_within (Blocked o) slack = false
 
+-- twice the length of a step that an edge bears, from a look at it
+abbrev pub bound_by : Look → ℕ
+bound_by Clear = 2 ^ 64 - 1
+bound_by (Within length) = 2 * length
+bound_by (Blocked o) = 0
+
+-- the state that edges are looked at in
+pub record IsSeen (p : Problem) (role_of : ℕ → Role) (nodes : List Node) (ks : List ℕ) : Type 0 where
+  pub dual : IsDual p nodes
+  pub roles : AreRoles (roles_by role_of) nodes
+  pub parity : HavePlusParity (roles_by role_of) nodes
+  pub limits : IsWithinLimits p
+  pub within : All (λ k. k < length p.edges) ks
+
 -- the look says which lengths are allowed, or names an obstacle that is there
 abbrev pub Limits : (ℕ → Type 0) → (Obstacle → Type 0) → Look → Type 0
 Limits Allowed Blocks Clear = (k : ℕ) → Allowed k
@@ -127,6 +141,13 @@ LimitsBoth p roles nodes names ks look =
     Limits
     (λ j. All (BearsShrinking nodes j) names × All (λ k. BearsStep roles nodes j (edge_at p.edges k)) ks)
     (Obstructs p roles nodes) look
+
+-- what a scan of the watched edges and the minus nodes tells, and what it leaves of the watch
+pub record HasScanned (p : Problem) (role_of : ℕ → Role) (nodes : List Node) (names : List ℕ) (old new : Watched) (look : Look)
+    : Type 0 where
+  pub limits : LimitsBoth p (roles_by role_of) nodes names old.edges look
+  pub watched : LeavesInner p nodes old new
+  pub bounded : AreBounded (slack_at p (roles_by role_of) nodes) new
 
 -- one look is counted for each edge up to the one with an obstacle
 abbrev pub CountsLooked : Look → ℕ → ℕ → ℕ → Type 0

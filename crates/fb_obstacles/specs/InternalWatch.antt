@@ -32,6 +32,11 @@ unqueued place w = record {
   queued = w.queued - 1;
 }
 
+-- bounds that are right stay so for limits that aren't less at these edges
+abbrev pub StaysRight : (ℕ → Type 0) → Watched → Watched → Type 0
+StaysRight Kept old new =
+    (before after : ℕ → ℕ) → ((k : ℕ) → Kept k → before k ≤ after k) → AreBounded before old → AreBounded after new
+
 -- the same edges are watched, in another order, with bounds that are as right
 pub record Reorders (old new : Watched) : Type 0 where
   pub count : new.edge_count ≡ old.edge_count

@@ -1,5 +1,5 @@
 -- What is in the way of an alternating tree (Wu and Zhong 2023).
-use Rattle.std.specs.Prelude.{ℕ, ◌≡◌, ◌+◌, ◌-◌, ◌*◌, ◌<◌, ◌≤◌, ◌⊎◌, ◌&&◌, Bool, true, false, is_some, if◌then◌else◌, List, [], length, All, Some, None}
+use Rattle.std.specs.Prelude.{ℕ, ◌≡◌, ◌+◌, ◌-◌, ◌*◌, ◌^◌, ◌<◌, ◌≤◌, ◌⊎◌, ◌&&◌, ◌||◌, Bool, true, false, not, if◌then◌else◌, List, [], length, All, Some, None}
 use Rattle.fb_graph.specs.Parity.{is_in}
 use Rattle.fb_graph.specs.Problem.{Problem, edge_at}
 use Rattle.fb_graph.specs.Certificate.{load_of}
@@ -12,6 +12,7 @@ use Rattle.fb_graph.specs.Moves.{MaySplit, MayUncover}
 use Rattle.fb_laws.specs.Lengths.{IsGreatestStep}
 use Rattle.fb_regions.specs.declared.roles.Role.{Role}
 use Rattle.fb_regions.specs.declared.roles.Role.TheVariants.{Plus, Minus, Out}
+use Rattle.fb_obstacles.specs.InnerEdges.{is_inner}
 use Rattle.fb_obstacles.specs.declared.obstacle.Obstacle.{Obstacle}
 use Rattle.fb_obstacles.specs.declared.obstacle.Obstacle.TheVariants.{Absorb, Boundary, Meet, PlusPair, LayerEmpty, BlossomEmpty, ZeroMinus, Free}
 
@@ -37,16 +38,29 @@ residue_of nodes e = e.weight - (height_of (all_cuts nodes) e.first + height_of 
 abbrev pub residue_at : Problem → List Node → ℕ → ℕ
 residue_at p nodes k = residue_of nodes (edge_at p.edges k)
 
--- Twice the length of a step that the edge bears, whatever the roles: its residue, of which a step takes at most twice its
--- length, or twice that if no node holds one of the ends, since only the other one can then grow.
-abbrev pub slack_of : List Node → Edge → ℕ
-slack_of nodes e =
-    if is_some (cover_of nodes e.first) && is_some (cover_of nodes e.second) then residue_of nodes e
-    else 2 * residue_of nodes e
+-- Twice the length of a step that an edge bears, from the roles at its two ends: its residue between two plus nodes, of which a
+-- step takes twice its length, and twice that where one end alone grows. Where none does, or one grows and the other shrinks,
+-- or one node holds both, a step takes nothing.
+abbrev pub slack_by : (inner plus_first plus_second minus_first minus_second : Bool) → (residue most : ℕ) → ℕ
+slack_by inner plus_first plus_second minus_first minus_second residue most =
+    if inner then most
+    else if plus_first && plus_second then residue
+    else if (plus_first && not minus_second) || (plus_second && not minus_first) then 2 * residue
+    else most
+
+-- more than any step takes
+abbrev pub most_of : Edge → ℕ
+most_of e = 2 ^ 64 + 2 * e.weight
+
+-- twice the length of a step that the edge bears in these roles
+abbrev pub slack_of : Roles → List Node → Edge → ℕ
+slack_of roles nodes e =
+    slack_by (is_inner nodes e) (is_covered_by roles.is_plus nodes e.first) (is_covered_by roles.is_plus nodes e.second)
+    (is_covered_by roles.is_minus nodes e.first) (is_covered_by roles.is_minus nodes e.second) (residue_of nodes e) (most_of e)
 
 -- the same of the edge of a number
-abbrev pub slack_at : Problem → List Node → ℕ → ℕ
-slack_at p nodes k = slack_of nodes (edge_at p.edges k)
+abbrev pub slack_at : Problem → Roles → List Node → ℕ → ℕ
+slack_at p roles nodes k = slack_of roles nodes (edge_at p.edges k)
 
 -- the edge can bear a step of length j
 abbrev pub BearsStep : Roles → List Node → ℕ → Edge → Type 0

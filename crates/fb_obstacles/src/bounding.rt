@@ -2,12 +2,11 @@ ghost use Rattle.std.specs.Prelude.{ℕ, ◌≡◌, ◌+◌, ◌<◌, ◌≤◌,
 ghost use Rattle.fb_graph.specs.Covers.{AreRoles};
 ghost use Rattle.fb_obstacles.specs.Obstacles.{HavePlusParity, ListsMinus, slack_at, roles_by};
 ghost use Rattle.fb_obstacles.specs.Watched.{AreBounded};
-ghost use Rattle.fb_obstacles.specs.InnerEdges.{LeavesInner};
-ghost use Rattle.fb_obstacles.specs.InternalLooks.{LimitsBoth, both_looks, fits_within};
+ghost use Rattle.fb_obstacles.specs.InternalLooks.{HasScanned, IsSeen, both_looks, fits_within};
 ghost use Rattle.fb_obstacles.specs.InternalWatch.{IsNext};
 
-use crate::ends::{Ends, keeps_dual};
-use crate::looking::{Look, look_with};
+use crate::ends::keeps_dual;
+use crate::looking::{Look, look_between};
 use crate::shrinking::{MinusNodes, look_at_minus};
 use crate::watching::Watch;
 use fb_graph::{Scope, Steps};
@@ -52,10 +51,18 @@ fn with_look(watch: &mut Watch, edge: u32, least: Look, look: Look) -> Look
     both
 }
 
+/// What a scan of the watched edges found, and how far it came.
+struct Scan {
+    /// What the minus nodes and the edges allow.
+    look: Look,
+    /// The place of the last edge that was looked at.
+    place: usize,
+}
+
 /// A look at all minus nodes and watched edges, up to the first obstacle. Passes over each edge whose bound shows that it
 /// bears what the others allow, without a look at the bounds of those that wait in the queue with a later one. Sets the bound
-/// of each edge that it looks at to its slack, and puts it into the queue again. An edge both of whose ends one outer node
-/// holds never limits the step: if the look finds one, it is watched no longer.
+/// of each edge that it looks at to what it bears in these roles, and puts it into the queue again. An edge both of whose ends
+/// one outer node holds never limits the step: if the look finds one, it is watched no longer.
 pub fn look_by_bounds<S: Scope, R: MinusNodes, L: Ledger>(
     watch: &mut Watch,
     scope: &S,
@@ -68,15 +75,26 @@ pub fn look_by_bounds<S: Scope, R: MinusNodes, L: Ledger>(
     requires minus { ListsMinus (roles_by (R.role_of roles.now)) regions.now.nodes (R.minus_names roles.now) }
     requires parity { HavePlusParity (roles_by (R.role_of roles.now)) regions.now.nodes }
     requires within { All (λ k. k < length (S.problem scope.now).edges) watch.old.edges }
-    requires bounded { AreBounded (slack_at (S.problem scope.now) regions.now.nodes) watch.old }
-    ensures limits { LimitsBoth (S.problem scope.now) (roles_by (R.role_of roles.now)) regions.now.nodes (R.minus_names roles.now) watch.old.edges result }
-    ensures watched { LeavesInner (S.problem scope.now) regions.now.nodes watch.old watch.new }
-    ensures bounded { AreBounded (slack_at (S.problem scope.now) regions.now.nodes) watch.new }
+    requires bounded { AreBounded (slack_at (S.problem scope.now) (roles_by (R.role_of roles.now)) regions.now.nodes) watch.old }
+    ensures scanned { HasScanned (S.problem scope.now) (R.role_of roles.now) regions.now.nodes (R.minus_names roles.now) watch.old watch.new result }
     ensures looks { (looks.old ≤ looks.new) × (looks.new ≤ looks.old + length watch.old.edges) }
 {
-    let look = scan_by_bounds(watch, scope, regions, roles, looks);
-    watch.requeue();
+    keeps_seen(watch, scope, regions, roles);
+    let Scan { look, place } = scan_by_bounds(watch, scope, regions, roles, looks);
+    watch.requeue(place);
     look
+}
+
+/// Does nothing. Its clause says what is known of the state that edges are looked at in.
+fn keeps_seen<S: Scope, R: MinusNodes>(watch: &Watch, scope: &S, regions: &Regions<S>, roles: &R)
+    requires same { regions.now.scope ≡ scope.now }
+    requires roles { AreRoles (roles_by (R.role_of roles.now)) regions.now.nodes }
+    requires parity { HavePlusParity (roles_by (R.role_of roles.now)) regions.now.nodes }
+    requires within { All (λ k. k < length (S.problem scope.now).edges) watch.now.edges }
+    ensures { IsSeen (S.problem scope.now) (R.role_of roles.now) regions.now.nodes watch.now.edges }
+{
+    keeps_dual(regions);
+    scope.limits();
 }
 
 /// The look, whose edges are not put into the queue again. Goes from the last edge to the first of those that don't wait in the
@@ -87,26 +105,20 @@ fn scan_by_bounds<S: Scope, R: MinusNodes, L: Ledger>(
     regions: &Regions<S>,
     roles: &R,
     looks: &mut Steps<L>,
-) -> Look
+) -> Scan
     requires same { regions.now.scope ≡ scope.now }
-    requires roles { AreRoles (roles_by (R.role_of roles.now)) regions.now.nodes }
     requires minus { ListsMinus (roles_by (R.role_of roles.now)) regions.now.nodes (R.minus_names roles.now) }
-    requires parity { HavePlusParity (roles_by (R.role_of roles.now)) regions.now.nodes }
-    requires within { All (λ k. k < length (S.problem scope.now).edges) watch.old.edges }
-    requires bounded { AreBounded (slack_at (S.problem scope.now) regions.now.nodes) watch.old }
-    ensures limits { LimitsBoth (S.problem scope.now) (roles_by (R.role_of roles.now)) regions.now.nodes (R.minus_names roles.now) watch.old.edges result }
-    ensures watched { LeavesInner (S.problem scope.now) regions.now.nodes watch.old watch.new }
-    ensures bounded { AreBounded (slack_at (S.problem scope.now) regions.now.nodes) watch.new }
+    requires seen { IsSeen (S.problem scope.now) (R.role_of roles.now) regions.now.nodes watch.old.edges }
+    requires bounded { AreBounded (slack_at (S.problem scope.now) (roles_by (R.role_of roles.now)) regions.now.nodes) watch.old }
+    ensures scanned { HasScanned (S.problem scope.now) (R.role_of roles.now) regions.now.nodes (R.minus_names roles.now) watch.old watch.new result.look }
     ensures looks { (looks.old ≤ looks.new) × (looks.new ≤ looks.old + length watch.old.edges) }
 {
-    keeps_dual(regions);
-    scope.limits();
     watch.keeps();
+    let mut place = watch.len();
     let mut least = look_at_minus(regions, roles);
     if let Look::Blocked(_) = least {
-        return least;
+        return Scan { look: least, place };
     }
-    let mut place = watch.len();
     while let Some(at) = next_place(watch, place, least) {
         watch.keeps();
         place = at;
@@ -115,22 +127,15 @@ fn scan_by_bounds<S: Scope, R: MinusNodes, L: Ledger>(
         }
         looks.tick();
         let edge = watch.edges()[at];
-        let ends = Ends::of(edge, regions);
-        if ends.are_under_one() {
+        let Some(look) = look_between(edge, scope, regions, roles) else {
             watch.take_out(at);
             continue;
-        }
-        let residue = ends.residue(scope.weight(edge));
-        let slack = ends.slack(residue);
-        watch.set_bound(at, slack);
-        if least.fits_within(slack) {
-            continue;
-        }
-        let look = look_with(edge, ends, residue, scope, roles);
+        };
+        watch.set_bound(at, look.bound());
         least = with_look(watch, edge, least, look);
         if let Look::Blocked(_) = least {
-            return least;
+            return Scan { look: least, place };
         }
     }
-    least
+    Scan { look: least, place }
 }

@@ -1,9 +1,9 @@
-ghost use Rattle.std.specs.Prelude.{◌≡◌, ◌^◌, ◌<◌, length};
+ghost use Rattle.std.specs.Prelude.{◌≡◌, ◌<◌, length};
 ghost use Rattle.fb_graph.specs.Problem.{edge_at};
 ghost use Rattle.fb_graph.specs.Dual.{IsDual};
 ghost use Rattle.fb_regions.specs.Holders.{potential_by};
 ghost use Rattle.fb_obstacles.specs.InnerEdges.{is_one_node};
-ghost use Rattle.fb_obstacles.specs.InternalLooks.{AreEnds, cover_by, far_by, far_end, node_by, residue_by, slack_by};
+ghost use Rattle.fb_obstacles.specs.InternalLooks.{AreEnds, cover_by, far_by, far_end, node_by, residue_by};
 
 use crate::NodeId;
 use fb_graph::Scope;
@@ -58,19 +58,6 @@ impl Ends {
         weight
             .saturating_sub(potential_by(self.first))
             .saturating_sub(potential_by(self.second))
-    }
-
-    /// The slack of the edge, twice the length of a step that it bears: its residue, or twice that if no node holds one
-    /// of its ends, since a step then takes at most its length from it.
-    pub fn slack(self, residue: u64) -> u64
-        requires { residue < 2 ^ 63 }
-        ensures { result ≡ slack_by self residue }
-    {
-        if self.first.is_some() && self.second.is_some() {
-            residue
-        } else {
-            residue * 2
-        }
     }
 
     /// Whether one outer node holds both ends.

@@ -57,8 +57,7 @@ fn is_inner<S: Scope>(scope: &S, regions: &Regions<S>, edge: u32) -> bool
     is_one_node(regions.cover_of(first), regions.cover_of(second))
 }
 
-/// Watches the edge, unless one outer node holds both its ends: then it is watched no longer. Its slack may be half of what it
-/// was.
+/// Watches the edge, unless one outer node holds both its ends: then it is watched no longer.
 fn watch_outer<S: Scope>(watch: &mut Watch, scope: &S, regions: &Regions<S>, edge: u32)
     requires room { watch.old.edge_count ≡ length (S.problem scope.now).edges }
     requires below { edge < length (S.problem scope.now).edges }
@@ -67,12 +66,12 @@ fn watch_outer<S: Scope>(watch: &mut Watch, scope: &S, regions: &Regions<S>, edg
     if is_inner(scope, regions, edge) {
         watch.leave(edge);
     } else {
-        watch.enter_halved(edge);
+        watch.enter(edge);
     }
 }
 
-/// Watches the edges at a vertex that an outer node has absorbed. Those that lead to another vertex of that node are
-/// watched no longer. The slacks of others may be half of what they were, since a node holds the vertex now.
+/// Watches the edges at a vertex that an outer node has absorbed, or that none holds any longer. Those that lead to another
+/// vertex of the same node are watched no longer. Nothing is known of the slacks of the others.
 pub fn watch_taken<S: Scope>(watch: &mut Watch, scope: &S, regions: &Regions<S>, v: u32)
     requires room { watch.old.edge_count ≡ length (S.problem scope.now).edges }
     requires below { v < (S.problem scope.now).vertices }

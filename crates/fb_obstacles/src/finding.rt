@@ -55,7 +55,7 @@ pub fn next_obstacle<S: Scope, R: MinusNodes, L: Ledger>(
 
 /// An obstacle in the way of the tree with these roles, or how far the tree may step, as `next_obstacle` finds it, but
 /// with a look only at those watched edges whose bounds don't show that they bear the step. Sets the bound of each edge
-/// that it looks at to the edge's slack, and counts a look for it. An edge that is found inside one outer node is watched
+/// that it looks at to what the edge bears in these roles, and counts a look for it. An edge that is found inside one outer node is watched
 /// no longer.
 pub fn next_obstacle_by_bounds<S: Scope, R: MinusNodes, L: Ledger>(
     watch: &mut Watch,
@@ -71,11 +71,11 @@ pub fn next_obstacle_by_bounds<S: Scope, R: MinusNodes, L: Ledger>(
     requires parity { HavePlusParity (roles_by (R.role_of roles.now)) regions.now.nodes }
     requires even { HasNoOddClosed (with_defects (S.problem scope.now) (leaves regions.now.nodes)) }
     requires watched { IsWatched (S.problem scope.now) (roles_by (R.role_of roles.now)) regions.now.nodes watch.old.edges }
-    requires bounded { AreBounded (slack_at (S.problem scope.now) regions.now.nodes) watch.old }
+    requires bounded { AreBounded (slack_at (S.problem scope.now) (roles_by (R.role_of roles.now)) regions.now.nodes) watch.old }
     ensures obstacle { IsObstacle (S.problem scope.now) (roles_by (R.role_of roles.now)) regions.now.nodes result }
     ensures left { LeavesInner (S.problem scope.now) regions.now.nodes watch.old watch.new }
     ensures watched { IsWatched (S.problem scope.now) (roles_by (R.role_of roles.now)) regions.now.nodes watch.new.edges }
-    ensures bounded { AreBounded (slack_at (S.problem scope.now) regions.now.nodes) watch.new }
+    ensures bounded { AreBounded (slack_at (S.problem scope.now) (roles_by (R.role_of roles.now)) regions.now.nodes) watch.new }
     ensures looks { (looks.old ≤ looks.new) × (looks.new ≤ looks.old + length watch.old.edges) }
 {
     keeps_dual(regions);

@@ -1,6 +1,7 @@
-ghost use Rattle.std.specs.Prelude.{◌≡◌, ◌<◌, length};
+ghost use Rattle.std.specs.Prelude.{◌≡◌, ◌<◌, ◌≤◌, length, MatchOption};
+ghost use Rattle.fb_graph.specs.Dual.{AreUnderOne};
 ghost use Rattle.fb_graph.specs.Problem.{edge_at};
-ghost use Rattle.fb_obstacles.specs.InternalLooks.{bounded_look, both_looks, edge_look, far_by, fits_within, look_at, look_if};
+ghost use Rattle.fb_obstacles.specs.InternalLooks.{bounded_look, both_looks, bound_by, edge_look, far_by, fits_within, look_at, look_if};
 
 use crate::ends::{Cover, Ends};
 use crate::obstacle::Obstacle;
@@ -29,6 +30,17 @@ impl Look {
             (Look::Clear, _) => other,
             (_, Look::Clear) => self,
             (Look::Within(i), Look::Within(j)) => Look::Within(i.min(j)),
+        }
+    }
+
+    /// A bound of the slack of the edge that was looked at.
+    pub fn bound(self) -> u64
+        ensures { result ≤ bound_by self }
+    {
+        match self {
+            Look::Clear => u64::MAX,
+            Look::Within(length) => length.saturating_mul(2),
+            Look::Blocked(_) => 0,
         }
     }
 
@@ -79,14 +91,29 @@ pub fn look_over<S: Scope, R: Roles>(edge: u32, scope: &S, regions: &Regions<S>,
     look_with(edge, ends, residue, scope, roles)
 }
 
-/// A look at one edge whose ends and residue are known.
-pub fn look_with<S: Scope, R: Roles>(
+/// A look at one edge; none if one outer node holds both its ends.
+pub fn look_between<S: Scope, R: Roles>(
     edge: u32,
-    ends: Ends,
-    residue: u64,
     scope: &S,
+    regions: &Regions<S>,
     roles: &R,
-) -> Look
+) -> Option<Look>
+    requires same { regions.now.scope ≡ scope.now }
+    requires below { edge < length (S.problem scope.now).edges }
+    ensures { let e = edge_at (S.problem scope.now).edges edge in
+        MatchOption result (AreUnderOne regions.now.nodes e.first e.second)
+        (λ look. look ≡ edge_look (S.problem scope.now) (R.role_of roles.now) regions.now.nodes edge) }
+{
+    let ends = Ends::of(edge, regions);
+    if ends.are_under_one() {
+        return None;
+    }
+    let residue = ends.residue(scope.weight(edge));
+    Some(look_with(edge, ends, residue, scope, roles))
+}
+
+/// A look at one edge whose ends and residue are known.
+fn look_with<S: Scope, R: Roles>(edge: u32, ends: Ends, residue: u64, scope: &S, roles: &R) -> Look
     requires { edge < length (S.problem scope.now).edges }
     ensures { let e = edge_at (S.problem scope.now).edges edge in
         result ≡ look_if (far_by (S.problem scope.now) (R.role_of roles.now) e ends) residue edge }

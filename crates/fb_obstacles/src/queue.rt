@@ -51,6 +51,13 @@ impl DueTimes {
         }
     }
 
+    /// How many there are.
+    pub fn len(&self) -> usize
+        ensures { result ≡ length self.now }
+    {
+        self.heap.len()
+    }
+
     /// Takes room for some more.
     pub fn make_room(&mut self, more: usize) -> Result<(), NoMemory>
         ensures { self.new ≡ self.old }

@@ -6,7 +6,7 @@ ghost use Rattle.fb_graph.specs.Counts.{as_count};
 ghost use Rattle.fb_graph.specs.Certificate.{AreDistinct};
 ghost use Rattle.fb_obstacles.specs.Watched.{AreBounded};
 ghost use Rattle.fb_obstacles.specs.InternalQueue.{is_due};
-ghost use Rattle.fb_obstacles.specs.InternalWatch.{AreDue, Reorders, unqueued};
+ghost use Rattle.fb_obstacles.specs.InternalWatch.{AreDue, Reorders, StaysRight, unqueued};
 
 use crate::edge_hasher::EdgeHasher;
 use crate::queue::{Due, DueTimes};
@@ -101,48 +101,48 @@ impl Watch {
         }
     }
 
-    /// Watches the edge from now on. If it wasn't watched before, nothing is known of its slack.
+    /// Watches the edge from now on. Nothing is known of its slack then.
     pub fn enter(&mut self, edge: u32)
-        requires { edge < self.old.edge_count }
-        ensures { self.new ≡ (if is_in self.old.edges edge then self.old else record { edge_count = self.old.edge_count; edges = self.old.edges ++ edge ∷ []; bounds = self.old.bounds ++ 0 ∷ []; queued = self.old.queued }) }
-    {
-        let _len = self.known.len();
-        let place = place_in(&mut self.known, edge);
-        if place >= self.live {
-            bring(&mut self.known, place, self.live, self.lowered);
-            self.live += 1;
-        }
-    }
-
-    /// Watches the edge from now on. Its slack may be half of what it was.
-    pub fn enter_halved(&mut self, edge: u32)
         requires { edge < self.old.edge_count }
         ensures count { self.new.edge_count ≡ self.old.edge_count }
         ensures edges { (e : ℕ) → is_in self.new.edges e ≡ (is_in self.old.edges e || (e == edge)) }
-        ensures bounds { (limit : ℕ → ℕ) → AreBounded limit self.old
-            → AreBounded (λ e. if e == edge then limit e / 2 else limit e) self.new }
+        ensures bounds { StaysRight (λ e. (e == edge) ≡ false) self.old self.new }
     {
-        match self.place_of(edge) {
-            Some(place) => self.halve(place),
-            None => {
-                self.keeps();
-                self.enter(edge);
-            }
+        self.keeps();
+        if let Some(place) = self.place_or_add(edge) {
+            self.forget(place);
         }
     }
 
-    /// Halves the bound of the edge at this place, which then doesn't wait in the queue.
-    fn halve(&mut self, place: usize)
+    /// The place of the edge if it is watched; if not, it is from now on.
+    fn place_or_add(&mut self, edge: u32) -> Option<usize>
+        requires { edge < self.old.edge_count }
+        ensures { MatchOption result
+            ((is_in self.old.edges edge ≡ false)
+            × (self.new ≡ record self.old { edges = self.old.edges ++ edge ∷ []; bounds = self.old.bounds ++ 0 ∷ [] }))
+            (λ i. (self.new ≡ self.old) × (i < length self.old.edges) × (get_or self.old.edges i 0 ≡ edge)
+            × (is_in self.old.edges edge ≡ true)) }
+    {
+        let _len = self.known.len();
+        let place = place_in(&mut self.known, edge);
+        if place < self.live {
+            return Some(place);
+        }
+        bring(&mut self.known, place, self.live, self.lowered);
+        self.live += 1;
+        None
+    }
+
+    /// Nothing is known any longer of the slack of the edge at this place, which then doesn't wait in the queue.
+    fn forget(&mut self, place: usize)
         requires { place < length self.old.edges }
         ensures count { self.new.edge_count ≡ self.old.edge_count }
         ensures edges { (e : ℕ) → is_in self.new.edges e ≡ is_in self.old.edges e }
-        ensures bounds { (limit : ℕ → ℕ) → AreBounded limit self.old
-            → AreBounded (λ e. if e == get_or self.old.edges place 0 then limit e / 2 else limit e) self.new }
+        ensures bounds { StaysRight (λ e. (e == get_or self.old.edges place 0) ≡ false) self.old self.new }
     {
-        let half = self.bound_at(place) / 2;
         let place = self.taken_from_queue(place);
         self.keeps();
-        self.set_bound(place, half);
+        self.set_bound(place, 0);
     }
 
     /// Watches the edge no longer.
@@ -279,15 +279,44 @@ impl Watch {
         }
     }
 
-    /// Puts into the queue, as far as it has room, the edges that don't wait there and may not be tight.
-    pub(crate) fn requeue(&mut self)
+    /// Puts into the queue, as far as it has room, the edges from this place on that don't wait there and may not be tight.
+    /// Where entries that are no edge's due time outnumber the edges, the queue is built anew.
+    pub(crate) fn requeue(&mut self, from: usize)
         ensures { Reorders self.old self.new }
     {
-        let mut place = self.queued;
+        let from = self.without_stale(from);
+        self.queue_from(from);
+    }
+
+    /// Empties the queue if entries that are no edge's due time outnumber the edges. Returns the place from which on edges are
+    /// to be put into it: the first one then, or else the place that was given.
+    fn without_stale(&mut self, from: usize) -> usize
+        ensures { Reorders self.old self.new }
+    {
+        if self.queue.len() / 2 <= self.live {
+            return from;
+        }
+        self.leave_queue();
+        0
+    }
+
+    /// Puts into the queue, as far as it has room, the edges from this place on that don't wait there and may not be tight.
+    fn queue_from(&mut self, from: usize)
+        ensures { Reorders self.old self.new }
+    {
+        let mut place = from.max(self.queued);
         while place < self.live {
             self.queue_at(place);
             place += 1;
         }
+    }
+
+    /// No edge waits in the queue any longer.
+    fn leave_queue(&mut self)
+        ensures { self.new ≡ record self.old { queued = 0 } }
+    {
+        self.queue.clear();
+        self.queued = 0;
     }
 
     /// Puts the edge at this place into the queue, if it may not be tight and there is room. It comes to stand first of those

@@ -1,5 +1,6 @@
--- Two matched nodes attached to a tree: what stays watched, and that less is left to do.
-use Rattle.std.proofs.Common.{ℕ, ◌≡◌, ◌<◌, ◌⊎◌, inl, inr, true, false, List, ◌∷◌, map, length, All, Some, sym, ap, ◌∙◌, if◌then◌else◌}
+-- Two matched nodes attached to a tree: what stays watched, which bounds stay right, and that less is left to do.
+use Rattle.std.proofs.Common.{ℕ, ◌≡◌, ◌≢◌, ◌<◌, ◌⊎◌, ◌||◌, inl, inr, true, false, List, ◌∷◌, map, length, All, Some, refl, sym, ap, ◌∙◌, if◌then◌else◌}
+use Rattle.std.proofs.lemmas.Bool.{ne_eqb}
 use Rattle.fb_graph.specs.Parity.{is_in}
 use Rattle.fb_graph.specs.Problem.{Problem, edge_at}
 use Rattle.fb_graph.specs.Certificate.{AreDistinct}
@@ -7,7 +8,7 @@ use Rattle.fb_graph.specs.Limits.{IsWithinLimits}
 use Rattle.fb_graph.specs.Covers.{is_covered_by, passes}
 use Rattle.fb_graph.specs.Dual.{AreUnderOne, Node, cover_of, top_at}
 use Rattle.fb_graph.specs.Laws.{Link}
-use Rattle.fb_graph.proofs.Sets.{is_in-cases}
+use Rattle.fb_graph.proofs.Sets.{is_in-cases, is_in-tail}
 use Rattle.fb_graph.proofs.TightLinks.{all_even}
 use Rattle.fb_laws.specs.Measures.{IsLower}
 use Rattle.fb_laws.specs.SearchLayers.{left_to_do}
@@ -15,8 +16,8 @@ use Rattle.fb_laws.specs.StateMoves.{MayAttach}
 use Rattle.fb_laws.specs.Trees.{Entry, EntryOf, minus_names, plus_names, roles_of}
 use Rattle.fb_laws.proofs.SearchTrees.{cover_set}
 use Rattle.fb_laws.proofs.StateMeasures.{attached_less}
-use Rattle.fb_obstacles.specs.Obstacles.{IsWatched, grows, roles_by}
-use Rattle.fb_obstacles.specs.Watched.{Watched}
+use Rattle.fb_obstacles.specs.Obstacles.{IsWatched, grows, roles_by, shrinks, slack_at}
+use Rattle.fb_obstacles.specs.Watched.{AreBounded, Watched}
 use Rattle.fb_regions.specs.declared.roles.Role.TheVariants.{Plus, Minus, Out}
 use Rattle.fb_trees.proofs.Mapped.{minus_moved, plus_moved}
 use Rattle.fb_trees.specs.Branches.{Grown}
@@ -27,7 +28,8 @@ use Rattle.fb_search.specs.InternalSearching.{IsSearchingBeside, SearchValue, pr
 use Rattle.fb_obstacles.specs.InternalWatching.{Watches}
 use Rattle.fb_search.proofs.BegunSearches.{touches_first, touches_second}
 use Rattle.fb_search.proofs.TakenVertices.{plus_over}
-use Rattle.fb_search.proofs.RolesInTree.{plus_in_tree}
+use Rattle.fb_search.proofs.KeptBounds.{IsMilder, slack_away}
+use Rattle.fb_search.proofs.RolesInTree.{minus_in_tree, minus_not_plus, minus_role, plus_in_tree}
 
 pub plus_role : (t : Grown) (name : ℕ) → is_in (plus_names t.root t.branches) name ≡ true → grows (role_in t name) ≡ true
 plus_role t name plus =
@@ -41,6 +43,14 @@ plus_before t e name plus = by (is_in-cases e.plus (plus_names t.root t.branches
     by : (e.plus ≡ name) ⊎ (is_in (plus_names t.root t.branches) name ≡ true) → (e.plus ≡ name) ⊎ (grows (role_in t name) ≡ true)
     by (inl same) = inl same
     by (inr old) = inr (plus_role t name old)
+
+-- a minus node is minus in the new tree, if it isn't the new plus node
+minus_after : (t : Grown) (e : EntryOf ℕ) (name : ℕ) → e.plus ≢ name → shrinks (role_in t name) ≡ true
+    → shrinks (role_in (attached_grown t e) name) ≡ true
+minus_after t e name other minus =
+    minus_role (attached_grown t e) name
+    (ap (λ b. b || is_in (plus_names t.root t.branches) name) (ne_eqb e.plus name other) ∙ minus_not_plus t name minus)
+    (is_in-tail e.minus (minus_names t.branches) name (minus_in_tree t name minus))
 
 module _ (p : Problem) (t : Grown) (e : EntryOf ℕ) (nodes : List Node) (limits : IsWithinLimits p)
     (distinct : AreDistinct (map (λ n. n.name) nodes)) (old new : Watched) (within : All (λ k. k < length p.edges) new.edges)
@@ -76,6 +86,33 @@ module _ (p : Problem) (t : Grown) (e : EntryOf ℕ) (nodes : List Node) (limits
               ⊎ (is_covered_by (λ n. grows (role_in t n)) nodes (edge_at p.edges k).second ≡ true) → is_in new.edges k ≡ true
           by (inl here) = watched.near (edge_at p.edges k).second k here less (touches_second p k limits less)
           by (inr before) = watched.kept k (watch.near k less (inr before) not_one)
+
+  -- no role is harder at a vertex that the new plus node doesn't hold
+  milder_attached : (u : ℕ) → ¬ (is_in (top_at nodes e.plus) u ≡ true)
+      → IsMilder (roles_by (role_in t)) (roles_by (role_in (attached_grown t e))) nodes nodes u
+  milder_attached u away = record { plus = λ over. by (over_before u over); minus = under_after }
+    where
+      by : (is_in (top_at nodes e.plus) u ≡ true) ⊎ (is_covered_by (λ n. grows (role_in t n)) nodes u ≡ true)
+          → is_covered_by (λ n. grows (role_in t n)) nodes u ≡ true
+      by (inl here) = absurd (away here)
+      by (inr before) = before
+
+      under_after : is_covered_by (λ n. shrinks (role_in t n)) nodes u ≡ true
+          → is_covered_by (λ n. shrinks (role_in (attached_grown t e) n)) nodes u ≡ true
+      under_after over =
+          let (name, covered, minus) = plus_over (λ n. shrinks (role_in t n)) nodes u over in
+          ap (passes (λ n. shrinks (role_in (attached_grown t e) n))) covered
+          ∙ minus_after t e name
+          (λ same. away (cover_set nodes u e.plus distinct (covered ∙ ap (λ n. Some n) (sym same))).1) minus
+
+  pub bounded_attached : AreBounded (slack_at p (roles_by (role_in t)) nodes) old
+      → AreBounded (slack_at p (roles_by (role_in (attached_grown t e))) nodes) new
+  bounded_attached =
+      watched.bounds (slack_at p (roles_by (role_in t)) nodes) (slack_at p (roles_by (role_in (attached_grown t e))) nodes)
+      (λ k away.
+      slack_away (roles_by (role_in t)) (roles_by (role_in (attached_grown t e))) nodes nodes
+      (λ v. is_in (top_at nodes e.plus) v ≡ true) (edge_at p.edges k) (λ v. refl) milder_attached (λ u v at_u at_v one. one)
+      away)
 
 -- less is left to do, whatever links the new branch has
 pub less_attached : (more : List ℕ) (w : SearchValue) (are : IsSearchingBeside more w) (e : Entry) (n : EntryOf ℕ) (rest : List Link)

@@ -20,7 +20,6 @@ use Rattle.fb_half.specs.declared.matches.Match.{Match}
 use Rattle.fb_half.specs.Matchings.{match_links, matched_names}
 use Rattle.fb_half.specs.Parts.{AreLinksOf}
 use Rattle.fb_half.specs.Translations.{entry_by, link_by, link_of, ring_links}
-use Rattle.fb_obstacles.specs.Obstacles.{slack_at}
 use Rattle.fb_obstacles.specs.Watched.{Watched}
 use Rattle.fb_trees.specs.Rooted.{attached_grown, is_node}
 use Rattle.fb_trees.proofs.Mapped.{plus_moved}
@@ -29,7 +28,7 @@ use Rattle.fb_search.specs.InternalMeetings.{HasMet, IsCouple, rematched_search}
 use Rattle.fb_search.specs.InternalProgress.{GoesOn}
 use Rattle.fb_search.specs.InternalSearching.{IsSearching, IsSearchingBeside, SearchValue, problem_of, relinked_search, searched_links, state_at}
 use Rattle.fb_obstacles.specs.InternalWatching.{Watches}
-use Rattle.fb_search.proofs.AttachedBranches.{less_attached, watch_attached}
+use Rattle.fb_search.proofs.AttachedBranches.{bounded_attached, less_attached, watch_attached}
 use Rattle.fb_search.proofs.AttachedMatches.{matching_attached}
 use Rattle.fb_search.proofs.Linked.{links_reordered}
 use Rattle.fb_search.proofs.MadeLinks.{link_made}
@@ -130,7 +129,10 @@ module _ (w : SearchValue) (met : Met) (now : SearchValue) (h : HasMet w met now
             watch_attached (problem_of w) w.tree (branch_met met mate) w.part.nodes limits
             h.was.state.1.search.nest.dual.names w.watched new
             (subst (λ n. All (λ j. j < n) new.edges) (watched.room ∙ h.was.room) within) watched h.was.watch;
-        bounds = watched.bounds (slack_at (problem_of w) w.part.nodes) h.was.bounds;
+        bounds =
+            bounded_attached (problem_of w) w.tree (branch_met met mate) w.part.nodes limits
+            h.was.state.1.search.nest.dual.names w.watched new
+            (subst (λ n. All (λ j. j < n) new.edges) (watched.room ∙ h.was.room) within) watched h.was.watch h.was.bounds;
       }
 
       rematched_goes_on : GoesOn w (with_branch (branch_met met mate) new (rematched_search now.part.links now.part.matching.matches w))

@@ -1,7 +1,7 @@
 -- A search that begins keeps what every search keeps.
-use Rattle.std.proofs.Common.{ℕ, ◌≡◌, ◌==◌, ◌<◌, ◌≤◌, ◌||◌, ◌⊎◌, inl, inr, Bool, cond, true, false, List, [], length, get_or, All, Option, Some, None, refl, sym, ap, ◌∙◌, arith}
-use Rattle.std.proofs.lemmas.Bool.{false≢true, eq-eqb, eqb-true, ne_eqb}
-use Rattle.fb_graph.specs.Parity.{is_in, differ}
+use Rattle.std.proofs.Common.{ℕ, ◌≡◌, ◌==◌, ◌<◌, ◌≤◌, ◌||◌, ◌⊎◌, inl, inr, Bool, cond, true, false, List, [], length, get_or, All, Option, Some, None, refl, sym, ap, ◌∙◌, le_refl, arith}
+use Rattle.std.proofs.lemmas.Bool.{false≢true, eqb-true}
+use Rattle.fb_graph.specs.Parity.{is_in}
 use Rattle.fb_graph.specs.Problem.{Problem, edge_at, touches, no_edge}
 use Rattle.fb_graph.specs.Limits.{DecodingGraph, IsWithinLimits, no_shot}
 use Rattle.fb_graph.specs.Dual.{cover_of, top_at}
@@ -15,6 +15,7 @@ use Rattle.fb_obstacles.specs.Obstacles.{grows, slack_at}
 use Rattle.fb_regions.specs.declared.roles.Role.TheVariants.{Plus, Minus, Out}
 use Rattle.fb_plan.specs.Plans.{PlanTree, problem_at}
 use Rattle.fb_search.specs.InternalSearching.{IsSearching, SearchValue, roles_in}
+use Rattle.fb_search.proofs.KeptBounds.{touched_first, touched_second}
 use Rattle.fb_obstacles.specs.InternalWatching.{Watches}
 
 abbrev begun : ℕ → PartValue → Watched → SearchValue
@@ -44,18 +45,11 @@ under_root root v part watched are over = by (cover_of part.nodes v) refl over
 -- an edge touches both its ends
 pub touches_first : (p : Problem) (k : ℕ) → IsWithinLimits p → k < length p.edges
     → touches (edge_at p.edges k).first (edge_at p.edges k) ≡ true
-touches_first p k limits less =
-    let loopless = (limits.each_edge k no_edge less).loopless in
-    ap (λ a. differ a ((edge_at p.edges k).first == (edge_at p.edges k).second)) (eq-eqb _ _ refl)
-    ∙ ap (differ true) (ne_eqb (edge_at p.edges k).first (edge_at p.edges k).second loopless)
+touches_first p k limits less = touched_first (edge_at p.edges k) (limits.each_edge k no_edge less).loopless
 
 pub touches_second : (p : Problem) (k : ℕ) → IsWithinLimits p → k < length p.edges
     → touches (edge_at p.edges k).second (edge_at p.edges k) ≡ true
-touches_second p k limits less =
-    let loopless = (limits.each_edge k no_edge less).loopless in
-    ap (λ a. differ a ((edge_at p.edges k).second == (edge_at p.edges k).second))
-    (ne_eqb (edge_at p.edges k).second (edge_at p.edges k).first (λ e. loopless (sym e)))
-    ∙ ap (differ false) (eq-eqb (edge_at p.edges k).second (edge_at p.edges k).second refl)
+touches_second p k limits less = touched_second (edge_at p.edges k) (limits.each_edge k no_edge less).loopless
 
 pub begun_searching : (root : ℕ) (part : PartValue) (old new : Watched) → IsPart part
     → IsWithinLimits (problem_in part) → is_in part.matching.unmatched root ≡ true
@@ -75,11 +69,13 @@ begun_searching root part old new are limits within below room empty watched = r
     within = rw (← watched.room ∙ room) below;
     near = λ k less over apart. near k less over;
   };
-  bounds = watched.bounds (slack_at (problem_in part) part.nodes) (λ i less. none i less);
+  bounds = watched.bounds slack slack (λ k away. le_refl (slack k)) (λ i less. none i less);
 }
   where
-    none : (i : ℕ) → i < length old.edges
-        → get_or old.bounds i 0 ≤ slack_at (problem_in part) part.nodes (get_or old.edges i 0)
+    slack : ℕ → ℕ
+    slack = slack_at (problem_in part) (roles_in (begun root part new)) part.nodes
+
+    none : (i : ℕ) → i < length old.edges → get_or old.bounds i 0 ≤ slack (get_or old.edges i 0)
     none i less = absurd (omega (arith, ap length empty, less))
 
     near : (k : ℕ) → k < length (problem_in part).edges

@@ -2,11 +2,10 @@
 use Rattle.std.proofs.Common.{ℕ, ◌≡◌, ◌≤◌, ◌≢◌, ◌<◌, true, false, List, [], ◌∷◌, length, All, Option, is_some, refl, sym, ap, ◌∙◌, subst}
 use Rattle.std.proofs.lemmas.Bool.{both_ways, false_from_ne_true}
 use Rattle.std.proofs.lemmas.List.Sorted.{IsPermutation-sym, length_permutation}
-use Rattle.fb_search.proofs.CoversBefore.{covered_unjoined}
 use Rattle.fb_graph.specs.Parity.{is_in}
 use Rattle.fb_graph.specs.Certificate.{AreDistinct}
 use Rattle.fb_graph.specs.Limits.{IsWithinLimits}
-use Rattle.fb_graph.specs.Dual.{is_live}
+use Rattle.fb_graph.specs.Dual.{is_live, is_outer}
 use Rattle.fb_graph.specs.Moves.{MayJoin, joined_nodes}
 use Rattle.fb_graph.proofs.JoinedNests.{height}
 use Rattle.fb_graph.proofs.Sets.{is_in-tail}
@@ -16,6 +15,7 @@ use Rattle.fb_blossoms.specs.Nodes as blossoms
 use Rattle.fb_laws.specs.PartStates.{IsSearchState, SearchState}
 use Rattle.fb_laws.specs.SearchBlossoms.{renamed_name}
 use Rattle.fb_laws.specs.StateBlossoms.{MayClose}
+use Rattle.fb_laws.specs.Trees.{tree_names}
 use Rattle.fb_laws.specs.Works.{names_without}
 use Rattle.fb_laws.proofs.OpenedBlossoms.{distinct_permuted, same_permuted}
 use Rattle.fb_laws.proofs.StateBlossoms.{unmatched_is_root}
@@ -29,7 +29,6 @@ use Rattle.fb_half.specs.Matchings.{MatchingValue, listed_names, match_links}
 use Rattle.fb_half.specs.Parts.{AreAgreed}
 use Rattle.fb_half.specs.Translations.{link_by}
 use Rattle.fb_half.specs.Values.{IsScopeOf}
-use Rattle.fb_obstacles.specs.Obstacles.{slack_at}
 use Rattle.fb_obstacles.specs.Watched.{Watched}
 use Rattle.fb_search.specs.InternalClosings.{Closes, IsReplacedBy, WatchesMinus}
 use Rattle.fb_search.specs.InternalProgress.{GoesOn}
@@ -37,13 +36,12 @@ use Rattle.fb_search.specs.InternalSearching.{IsSearching, SearchValue, problem_
 use Rattle.fb_search.proofs.Agreed.{agreed_joined, nodes_of}
 use Rattle.fb_search.proofs.BegunSearches.{kept_limits}
 use Rattle.fb_search.proofs.ClosedCycles.{many_replaced, may_close, root_unlisted, steps_join}
-use Rattle.fb_search.proofs.ClosedWatches.{watch_closed, watches_minus}
+use Rattle.fb_search.proofs.ClosedWatches.{bounded_closed, watch_closed, watches_minus}
 use Rattle.fb_search.proofs.Cycles.{cycle_from}
 use Rattle.fb_search.proofs.JoinConditions.{cycle_within, outer_made}
 use Rattle.fb_search.proofs.JoinLinks.{links_closed}
 use Rattle.fb_search.proofs.JoinMatchings.{matching_closed}
 use Rattle.fb_search.proofs.JoinStates.{less_after, state_after}
-use Rattle.fb_search.proofs.KeptBounds.{bounded_still}
 use Rattle.fb_search.proofs.KeptNodes.{beside_joined}
 use Rattle.fb_search.proofs.ScopeWalks.{scoped}
 use Rattle.fb_search.proofs.TakenNames.{without_taken}
@@ -120,6 +118,19 @@ module _ (w : SearchValue) (a b closing : ℕ) (closes : Closes w a b closing) (
         (agreed_joined w.part.nodes w.part.store store name steps closes.search.agreed
         (steps_join w a b closing closes steps is name new_name) adds)
 
+    made : is_outer (joined_nodes name cycle w.part.nodes) name ≡ true
+    made =
+        outer_made (problem_of w) s w.part.links w.tree.branches refl name a b closing is.shared is.up is.down may
+        is.paths closes.search.state.1
+
+    may_join : MayJoin w.part.nodes name cycle
+    may_join = subst (MayJoin w.part.nodes name) is.nodes (steps_join w a b closing closes steps is name new_name)
+
+    in_tree : (n : ℕ) → is_in cycle n ≡ true → is_in (tree_names w.tree.root w.tree.branches) n ≡ true
+    in_tree =
+        cycle_within (problem_of w) s w.part.links w.tree.branches refl name a b closing is.shared is.up is.down may
+        is.paths closes.search.state.1
+
     closed_kept : IsSearching after
     closed_kept = record {
       job = closes.search.job;
@@ -142,22 +153,13 @@ module _ (w : SearchValue) (a b closing : ℕ) (closes : Closes w a b closing) (
           watch_closed (problem_of w) w.part.nodes w.tree name cycle w.watched watched limits
           closes.search.state.1.search.nest.dual.names closes.search.state.1.search.nest.dual.apart
           state.search.nest.dual.apart
-          (outer_made (problem_of w) s w.part.links w.tree.branches refl name a b closing is.shared is.up is.down may
-          is.paths closes.search.state.1)
-          (subst (MayJoin w.part.nodes name) is.nodes (steps_join w a b closing closes steps is name new_name))
-          (cycle_within (problem_of w) s w.part.links w.tree.branches refl name a b closing is.shared is.up is.down may
-          is.paths closes.search.state.1)
-          watches closes.search.watch
+          made may_join in_tree watches closes.search.watch
           (subst (λ n. All (λ k. k < n) watched.edges) (watches.room ∙ closes.search.room) below);
       bounds =
-          bounded_still (problem_of w) w.part.nodes (joined_nodes name cycle w.part.nodes) watched
-          (height (problem_of w) w.part.nodes name cycle
-          (subst (MayJoin w.part.nodes name) is.nodes (steps_join w a b closing closes steps is name new_name))
-          closes.search.state.1.search.nest)
-          (covered_unjoined w.part.nodes name cycle closes.search.state.1.search.nest.dual.names
-          closes.search.state.1.search.nest.dual.apart
-          (subst (MayJoin w.part.nodes name) is.nodes (steps_join w a b closing closes steps is name new_name)))
-          (watches.bounds (slack_at (problem_of w) w.part.nodes) closes.search.bounds);
+          bounded_closed (problem_of w) w.part.nodes w.tree name cycle w.watched watched limits
+          closes.search.state.1.search.nest.dual.names closes.search.state.1.search.nest.dual.apart
+          state.search.nest.dual.apart made may_join in_tree watches
+          (height (problem_of w) w.part.nodes name cycle may_join closes.search.state.1.search.nest) closes.search.bounds;
     }
 
     others_kept : (n : ℕ) → is_in (names_without after.tree.root matching.unmatched) n

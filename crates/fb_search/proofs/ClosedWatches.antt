@@ -1,24 +1,29 @@
 -- The watch of a search after a cycle of its tree becomes a blossom: the minus nodes of the cycle are plus now.
-use Rattle.std.proofs.Common.{ℕ, ◌≡◌, ◌≢◌, ◌+◌, ◌<◌, ◌⊎◌, inl, inr, not, cond, Bool, true, false, List, [], ◌∷◌, map, length, take, get_or, All, Some, refl, sym, ap, ◌∙◌, subst, if◌then◌else◌}
-use Rattle.std.proofs.lemmas.Bool.{both_ways, false≢true}
+use Rattle.std.proofs.Common.{ℕ, ◌≡◌, ◌≢◌, ◌+◌, ◌<◌, ◌⊎◌, inl, inr, not, cond, Bool, true, false, List, [], ◌∷◌, ◌==◌, map, length, take, get_or, All, Some, refl, sym, ap, ◌∙◌, subst, if◌then◌else◌}
+use Rattle.std.specs.List.{list_any}
+use Rattle.std.proofs.lemmas.Bool.{both_ways, cases_Bool, eqb-true, false_from_ne_true, false≢true}
 use Rattle.fb_graph.specs.Parity.{is_in}
 use Rattle.fb_graph.specs.Problem.{Problem, edge_at, touches}
 use Rattle.fb_graph.specs.Limits.{DecodingGraph, IsWithinLimits, no_shot}
 use Rattle.fb_graph.specs.Certificate.{AreDistinct}
-use Rattle.fb_graph.specs.Dual.{AreOuterApart, Node, cover_of, is_live, is_outer, top_at}
+use Rattle.fb_graph.specs.Dual.{AreOuterApart, Node, all_cuts, cover_of, height_of, is_live, is_outer, top_at}
 use Rattle.fb_graph.specs.Covers.{is_covered_by, passes}
 use Rattle.fb_graph.specs.Moves.{MayJoin, joined_nodes}
-use Rattle.fb_graph.proofs.Among.{among_live, cover_among, top_among}
+use Rattle.fb_graph.proofs.Among.{among_is_in, among_live, any_among, cover_among, none_among, none_any}
 use Rattle.fb_graph.proofs.Members.{is_in-take_more}
 use Rattle.fb_graph.proofs.Sets.{is_in-cases, is_in-head, is_in-tail}
 use Rattle.fb_regions.specs.declared.roles.Role.TheVariants.{Plus, Minus, Out}
 use Rattle.fb_laws.specs.SearchBlossoms.{joined_tree, outer_branches, renamed_name, renamed_entry}
 use Rattle.fb_laws.specs.Trees.{EntryOf, minus_names, plus_names, tree_names}
+use Rattle.fb_laws.proofs.SearchTrees.{cover_set}
 use Rattle.fb_plan.specs.Plans.{PlanTree, problem_at}
 use Rattle.fb_half.specs.Parts.{PartValue, problem_in}
+use Rattle.fb_obstacles.specs.InternalWatch.{StaysRight}
 use Rattle.fb_obstacles.specs.InternalWatching.{Watches}
-use Rattle.fb_obstacles.specs.Obstacles.{IsWatched, grows, roles_by}
-use Rattle.fb_obstacles.specs.Watched.{Watched}
+use Rattle.fb_obstacles.specs.Obstacles.{IsWatched, grows, roles_by, shrinks, slack_at}
+use Rattle.fb_obstacles.specs.Watched.{AreBounded, Watched}
+use Rattle.fb_obstacles.proofs.ForgottenBounds.{right_twice}
+use Rattle.fb_obstacles.proofs.WatchSteps.{bounded_by}
 use Rattle.fb_trees.specs.Branches.{Grown}
 use Rattle.fb_trees.specs.Replacements as replacements
 use Rattle.fb_trees.specs.Rooted.{role_in}
@@ -26,9 +31,32 @@ use Rattle.fb_search.specs.InternalClosings.{WatchesMinus}
 use Rattle.fb_search.proofs.AttachedBranches.{plus_role}
 use Rattle.fb_search.proofs.BegunSearches.{touches_first, touches_second}
 use Rattle.fb_search.proofs.CoversBefore.{cover_before}
+use Rattle.fb_search.proofs.KeptBounds.{IsMilder, slack_away}
 use Rattle.fb_search.proofs.KeptWatches.{IsWatchedAt, together_joined, watch_kept}
-use Rattle.fb_search.proofs.RolesInTree.{plus_in_tree}
+use Rattle.fb_search.proofs.Renamed.{cover_joined}
+use Rattle.fb_search.proofs.RolesInTree.{minus_in_tree, minus_not_plus, minus_role, only_minus, plus_in_tree}
 use Rattle.fb_search.proofs.TakenVertices.{plus_over}
+
+-- all of a list fail a test where no one passes it
+none_in : (test : ℕ → Bool) (xs : List ℕ) → list_any test xs ≡ false → (v : ℕ) → is_in xs v ≡ true → test v ≡ false
+none_in test xs none v within =
+    let (x, a, e) = any_among (λ u. u == v) xs within in
+    ap test (sym (eqb-true x v e)) ∙ none_among test xs none x a
+
+-- the edge has no end at a minus node among these
+abbrev IsAway : Problem → List Node → Grown → List ℕ → ℕ → Type 0
+IsAway p nodes tree names k =
+    (name v : ℕ) → is_in names name ≡ true → role_in tree name ≡ Minus → is_in (top_at nodes name) v ≡ true
+    → touches v (edge_at p.edges k) ≡ false
+
+pub minus_first : (p : Problem) (nodes : List Node) (tree : Grown) (w : Watched) → WatchesMinus p nodes tree [] w w
+minus_first p nodes tree w = record {
+  room = refl;
+  kept = λ k h. h;
+  near = λ name v k mem minus held less touch. absurd (false≢true mem);
+  bounds = λ first last each right.
+      bounded_by first last w (λ k. each k (λ name v mem minus held. absurd (false≢true mem))) right;
+}
 
 -- the edges at one minus node more
 pub minus_on : (p : Problem) (nodes : List Node) (tree : Grown) (names : List ℕ) (i : ℕ) (a b c : Watched) → i < length names
@@ -38,7 +66,7 @@ minus_on p nodes tree names i a b c lt before more = record {
   room = more.room ∙ before.room;
   kept = λ k h. more.kept k (before.kept k h);
   near = λ name v k mem minus held less touch. by name v k minus held less touch (is_in-take_more names i name lt mem);
-  bounds = λ limit right. more.bounds limit (before.bounds limit right);
+  bounds = bounds;
 }
   where
     by : (name v k : ℕ) → role_in tree name ≡ Minus → is_in (top_at nodes name) v ≡ true → k < length p.edges
@@ -48,6 +76,30 @@ minus_on p nodes tree names i a b c lt before more = record {
     by name v k minus held less touch (inr same) =
         more.near v k (ap (λ n. is_in (top_at nodes n) v) same ∙ held) less touch
 
+    away_all : (k : ℕ) → IsAway p nodes tree (take i names) k
+        → list_any (λ u. touches u (edge_at p.edges k)) (top_at nodes (get_or names i 0)) ≡ false → (name v : ℕ)
+        → role_in tree name ≡ Minus → is_in (top_at nodes name) v ≡ true
+        → (is_in (take i names) name ≡ true) ⊎ (get_or names i 0 ≡ name) → touches v (edge_at p.edges k) ≡ false
+    away_all k away none name v minus held (inl old) = away name v old minus held
+    away_all k away none name v minus held (inr same) =
+        none_in (λ u. touches u (edge_at p.edges k)) (top_at nodes (get_or names i 0)) none v
+        (ap (λ n. is_in (top_at nodes n) v) same ∙ held)
+
+    here : ℕ → Bool
+    here k = list_any (λ v. touches v (edge_at p.edges k)) (top_at nodes (get_or names i 0))
+
+    bounds : StaysRight (IsAway p nodes tree (take (i + 1) names)) a c
+    bounds =
+        right_twice (IsAway p nodes tree (take i names)) (IsAway p nodes tree (take (i + 1) names)) here a b c
+        (λ k none away name v mem minus held. away_all k away none name v minus held (is_in-take_more names i name lt mem))
+        before.bounds
+        (λ first last each.
+        more.bounds first last
+        (λ k away.
+        each k
+        (none_any (λ v. touches v (edge_at p.edges k)) (top_at nodes (get_or names i 0))
+        (λ v among. away v (among_is_in (top_at nodes (get_or names i 0)) v among)))))
+
 -- a node that isn't minus brings no edges
 pub minus_past : (p : Problem) (nodes : List Node) (tree : Grown) (names : List ℕ) (i : ℕ) (a b : Watched) → i < length names
     → ¬ (role_in tree (get_or names i 0) ≡ Minus) → WatchesMinus p nodes tree (take i names) a b
@@ -56,7 +108,11 @@ minus_past p nodes tree names i a b lt other before = record {
   room = before.room;
   kept = before.kept;
   near = λ name v k mem minus held less touch. by name v k minus held less touch (is_in-take_more names i name lt mem);
-  bounds = before.bounds;
+  bounds = λ first last each right.
+      before.bounds first last
+      (λ k away.
+      each k (λ name v mem minus held. away_past name v k minus held away (is_in-take_more names i name lt mem)))
+      right;
 }
   where
     by : (name v k : ℕ) → role_in tree name ≡ Minus → is_in (top_at nodes name) v ≡ true → k < length p.edges
@@ -64,6 +120,12 @@ minus_past p nodes tree names i a b lt other before = record {
         → is_in b.edges k ≡ true
     by name v k minus held less touch (inl old) = before.near name v k old minus held less touch
     by name v k minus held less touch (inr same) = absurd (other (ap (role_in tree) same ∙ minus))
+
+    away_past : (name v k : ℕ) → role_in tree name ≡ Minus → is_in (top_at nodes name) v ≡ true
+        → IsAway p nodes tree (take i names) k
+        → (is_in (take i names) name ≡ true) ⊎ (get_or names i 0 ≡ name) → touches v (edge_at p.edges k) ≡ false
+    away_past name v k minus held away (inl old) = away name v old minus held
+    away_past name v k minus held away (inr same) = absurd (other (ap (role_in tree) same ∙ minus))
 
 -- a plus node of the tree with the blossom in it, other than the blossom, was plus
 plus_before : {L : Type 0} (joins : ℕ → Bool) (name root : ℕ) (tree : List (EntryOf L)) (n : ℕ) → n ≢ name
@@ -103,6 +165,25 @@ plus_before {L} joins name root tree n other there = each tree there
                 subst (λ m. is_in (e.plus ∷ plus_names root es) m ≡ true) (one e.plus (joins e.plus) same)
                 (is_in-head e.plus (plus_names root es))
             by (inr later) = is_in-tail e.plus (plus_names root es) n (rest later)
+
+-- a minus node that isn't joined is a minus node of the tree with the blossom in it
+minus_stays : (joins : ℕ → Bool) (name : ℕ) (tree : List (EntryOf ℕ)) (n : ℕ) → joins n ≡ false
+    → is_in (minus_names tree) n ≡ true → is_in (minus_names (joined_tree joins name tree)) n ≡ true
+minus_stays joins name [] n out there = there
+minus_stays joins name (e ∷ es) n out there =
+    put (joins e.minus) refl (is_in-cases e.minus (minus_names es) n there) (minus_stays joins name es n out)
+  where
+    put : (b : Bool) → joins e.minus ≡ b → (e.minus ≡ n) ⊎ (is_in (minus_names es) n ≡ true)
+        → (is_in (minus_names es) n ≡ true → is_in (minus_names (joined_tree joins name es)) n ≡ true)
+        → is_in
+        (minus_names (map (renamed_entry joins name) (cond (not b) (e ∷ outer_branches joins es) (outer_branches joins es)))) n
+        ≡ true
+    put true h (inl same) later = absurd (both_ways (joins n) out (ap joins (sym same) ∙ h))
+    put true h (inr older) later = later older
+    put false h (inl same) later =
+        subst (λ m. is_in (e.minus ∷ minus_names (joined_tree joins name es)) m ≡ true) same
+        (is_in-head e.minus (minus_names (joined_tree joins name es)))
+    put false h (inr older) later = is_in-tail e.minus (minus_names (joined_tree joins name es)) n (later older)
 
 -- each node of a tree is plus or minus
 plus_or_minus : {L : Type 0} (root : ℕ) (tree : List (EntryOf L)) (n : ℕ) → is_in (tree_names root tree) n ≡ true
@@ -163,55 +244,99 @@ module _ (p : Problem) (nodes : List Node) (tree : Grown) (name : ℕ) (children
       watches.near n v k child minus held less
       (ap (λ u. touches u (edge_at p.edges k)) (sym second) ∙ touches_second p k limits less)
 
-  over_before : (v : ℕ) → is_covered_by (roles_by (role_in (replacements.joined_grown tree children name))).is_plus
-      (joined_nodes name children nodes) v ≡ true
-      → (is_covered_by (roles_by (role_in tree)).is_plus nodes v ≡ true)
-      ⊎ IsWatchedAt p (joined_nodes name children nodes) new.edges v
+  abbrev After : Grown
+  After = replacements.joined_grown tree children name
+
+  abbrev Joined : List Node
+  Joined = joined_nodes name children nodes
+
+  -- a minus node of the cycle held the vertex
+  abbrev WasMinus : ℕ → Type 0
+  WasMinus v = (n : ℕ) × (is_in children n ≡ true) × (role_in tree n ≡ Minus) × (is_in (top_at nodes n) v ≡ true)
+
+  held_by : (v n : ℕ) → cover_of nodes v ≡ Some n → is_in (top_at nodes n) v ≡ true
+  held_by v n cover = (cover_set nodes v n names cover).1
+
+  not_name : (v n : ℕ) → cover_of nodes v ≡ Some n → n ≢ name
+  not_name v n cover same =
+      let a = cover_among nodes v n cover in
+      both_ways (is_live nodes name) may.fresh (ap (is_live nodes) (sym same) ∙ among_live nodes a.node n a.among a.named)
+
+  over_before : (v : ℕ) → is_covered_by (roles_by (role_in After)).is_plus Joined v ≡ true
+      → (is_covered_by (roles_by (role_in tree)).is_plus nodes v ≡ true) ⊎ WasMinus v
   over_before v over =
-      let (m, cover, plus) = plus_over (roles_by (role_in (replacements.joined_grown tree children name))).is_plus
-      (joined_nodes name children nodes) v over in
+      let (m, cover, plus) = plus_over (roles_by (role_in After)).is_plus Joined v over in
       let (n, was, which) = cover_before nodes name children names apart may v m cover in by m plus n was which
     where
       still : (n : ℕ) → cover_of nodes v ≡ Some n → grows (role_in tree n) ≡ true
           → is_covered_by (roles_by (role_in tree)).is_plus nodes v ≡ true
       still n cover plus = ap (passes (roles_by (role_in tree)).is_plus) cover ∙ plus
 
-      live : (n : ℕ) → cover_of nodes v ≡ Some n → is_live nodes n ≡ true
-      live n cover = let a = cover_among nodes v n cover in among_live nodes a.node n a.among a.named
-
       joined_one : (n : ℕ) → cover_of nodes v ≡ Some n → is_in children n ≡ true
           → (grows (role_in tree n) ≡ true) ⊎ (role_in tree n ≡ Minus)
-          → (is_covered_by (roles_by (role_in tree)).is_plus nodes v ≡ true)
-          ⊎ IsWatchedAt p (joined_nodes name children nodes) new.edges v
+          → (is_covered_by (roles_by (role_in tree)).is_plus nodes v ≡ true) ⊎ WasMinus v
       joined_one n cover child (inl plus) = inl (still n cover plus)
-      joined_one n cover child (inr minus) =
-          let a = cover_among nodes v n cover in
-          let held : is_in (top_at nodes n) v ≡ true =
-          ap (λ x. is_in (top_at nodes x) v) (sym a.named)
-          ∙ (ap (λ t. is_in t v) (top_among nodes names a.node a.among) ∙ a.holds) in
-          inr (watched_at n v child minus held)
+      joined_one n cover child (inr minus) = inr (n, child, minus, held_by v n cover)
 
-      by : (m : ℕ) → (roles_by (role_in (replacements.joined_grown tree children name))).is_plus m ≡ true → (n : ℕ)
-          → cover_of nodes v ≡ Some n
+      by : (m : ℕ) → (roles_by (role_in After)).is_plus m ≡ true → (n : ℕ) → cover_of nodes v ≡ Some n
           → ((is_in children n ≡ true) × (m ≡ name)) ⊎ ((is_in children n ≡ false) × (m ≡ n))
-          → (is_covered_by (roles_by (role_in tree)).is_plus nodes v ≡ true)
-          ⊎ IsWatchedAt p (joined_nodes name children nodes) new.edges v
+          → (is_covered_by (roles_by (role_in tree)).is_plus nodes v ≡ true) ⊎ WasMinus v
       by m plus n cover (inl (child, same)) = joined_one n cover child (role_there tree n (within n child))
       by m plus n cover (inr (out, same)) =
           inl
           (still n cover
           (plus_role tree n
-          (plus_before (is_in children) name tree.root tree.branches n
-          (λ e. both_ways (is_live nodes name) may.fresh (ap (is_live nodes) (sym e) ∙ live n cover))
-          (plus_in_tree (replacements.joined_grown tree children name) n
-          (ap (roles_by (role_in (replacements.joined_grown tree children name))).is_plus (sym same) ∙ plus)))))
+          (plus_before (is_in children) name tree.root tree.branches n (not_name v n cover)
+          (plus_in_tree After n (ap (roles_by (role_in After)).is_plus (sym same) ∙ plus)))))
+
+  under_after : (v : ℕ) → ¬ WasMinus v → is_covered_by (roles_by (role_in tree)).is_minus nodes v ≡ true
+      → is_covered_by (roles_by (role_in After)).is_minus Joined v ≡ true
+  under_after v away under =
+      let (n, cover, minus) = plus_over (roles_by (role_in tree)).is_minus nodes v under in
+      by n cover minus (cases_Bool (is_in children n))
+    where
+      by : (n : ℕ) → cover_of nodes v ≡ Some n → shrinks (role_in tree n) ≡ true
+          → (is_in children n ≡ true) ⊎ (is_in children n ≡ false)
+          → is_covered_by (roles_by (role_in After)).is_minus Joined v ≡ true
+      by n cover minus (inl child) = absurd (away (n, child, only_minus (role_in tree n) minus, held_by v n cover))
+      by n cover minus (inr out) =
+          let not_plus : is_in (plus_names After.root After.branches) n ≡ false =
+          false_from_ne_true (is_in (plus_names After.root After.branches) n)
+          (λ plus.
+          both_ways (is_in (plus_names tree.root tree.branches) n) (minus_not_plus tree n minus)
+          (plus_before (is_in children) name tree.root tree.branches n (not_name v n cover) plus)) in
+          ap (passes (roles_by (role_in After)).is_minus) (cover_joined nodes name children apart_after v n cover out)
+          ∙ minus_role After n not_plus
+          (minus_stays (is_in children) name tree.branches n out (minus_in_tree tree n minus))
+
+  milder_closed : (v : ℕ) → ¬ WasMinus v → IsMilder (roles_by (role_in tree)) (roles_by (role_in After)) nodes Joined v
+  milder_closed v away = record { plus = λ over. by (over_before v over); minus = under_after v away }
+    where
+      by : (is_covered_by (roles_by (role_in tree)).is_plus nodes v ≡ true) ⊎ WasMinus v
+          → is_covered_by (roles_by (role_in tree)).is_plus nodes v ≡ true
+      by (inl before) = before
+      by (inr was) = absurd (away was)
 
   pub watch_closed : IsWatched p (roles_by (role_in tree)) nodes old.edges → All (λ k. k < length p.edges) new.edges
-      → IsWatched p (roles_by (role_in (replacements.joined_grown tree children name))) (joined_nodes name children nodes) new.edges
+      → IsWatched p (roles_by (role_in After)) Joined new.edges
   watch_closed was below =
-      watch_kept p (roles_by (role_in tree)) (roles_by (role_in (replacements.joined_grown tree children name))) nodes
-      (joined_nodes name children nodes) old.edges new.edges was below watches.kept over_before
-      (together_joined nodes name children names apart_after outer)
+      watch_kept p (roles_by (role_in tree)) (roles_by (role_in After)) nodes Joined old.edges new.edges was below watches.kept
+      (λ v over. by v (over_before v over)) (together_joined nodes name children names apart_after outer)
+    where
+      by : (v : ℕ) → (is_covered_by (roles_by (role_in tree)).is_plus nodes v ≡ true) ⊎ WasMinus v
+          → (is_covered_by (roles_by (role_in tree)).is_plus nodes v ≡ true) ⊎ IsWatchedAt p Joined new.edges v
+      by v (inl before) = inl before
+      by v (inr (n, child, minus, held)) = inr (watched_at n v child minus held)
+
+  pub bounded_closed : ((v : ℕ) → height_of (all_cuts Joined) v ≡ height_of (all_cuts nodes) v)
+      → AreBounded (slack_at p (roles_by (role_in tree)) nodes) old
+      → AreBounded (slack_at p (roles_by (role_in After)) Joined) new
+  bounded_closed heights =
+      watches.bounds (slack_at p (roles_by (role_in tree)) nodes) (slack_at p (roles_by (role_in After)) Joined)
+      (λ k away.
+      slack_away (roles_by (role_in tree)) (roles_by (role_in After)) nodes Joined WasMinus (edge_at p.edges k) heights
+      milder_closed (λ u v at_u at_v one. together_joined nodes name children names apart_after outer u v one)
+      (λ v was. away was.0 v was.1 was.2 was.3))
 
 -- the same by the scope of the part's node, whose problem has no defects
 pub watches_minus : (part : PartValue) (g : DecodingGraph) (t : PlanTree) (n : ℕ) (nodes : List Node) (tree : Grown)

@@ -50,16 +50,6 @@ cover_before nodes name children names apart may v m cover =
         )
     by q named outer holds (inr (inr none)) = absurd none
 
--- what is covered once nodes are joined was covered before
-pub covered_unjoined : (nodes : List Node) (name : ℕ) (children : List ℕ) → AreDistinct (map (λ n. n.name) nodes)
-    → AreOuterApart nodes → MayJoin nodes name children → (v : ℕ) → is_some (cover_of (joined_nodes name children nodes) v) ≡ true
-    → is_some (cover_of nodes v) ≡ true
-covered_unjoined nodes name children names apart may v = by (cover_of (joined_nodes name children nodes) v) refl
-  where
-    by : (o : Option ℕ) → cover_of (joined_nodes name children nodes) v ≡ o → is_some o ≡ true → is_some (cover_of nodes v) ≡ true
-    by None e h = absurd (false≢true h)
-    by (Some m) e h = ap (λ o. is_some o) (cover_before nodes name children names apart may v m e).1
-
 -- what is covered once a blossom is opened was covered before
 pub covered_unsplit : (p : Problem) (nodes : List Node) (name : ℕ) → IsNest p nodes → (v : ℕ)
     → is_some (cover_of (split_nodes name nodes) v) ≡ true → is_some (cover_of nodes v) ≡ true

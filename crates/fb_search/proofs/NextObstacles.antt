@@ -79,7 +79,7 @@ module _ (w : SearchValue) (are : IsSearching w) where
     pub next_watched : IsWatched (problem_at g t n no_shot) (roles_in w) w.part.nodes w.watched.edges
     next_watched = rw eg (record { within = are.watch.within; near = λ k less over apart. are.watch.near k less over apart })
 
-    pub next_bounded : AreBounded (slack_at (problem_at g t n no_shot) w.part.nodes) w.watched
+    pub next_bounded : AreBounded (slack_at (problem_at g t n no_shot) (roles_in w) w.part.nodes) w.watched
     next_bounded = rw eg (λ i less. are.bounds i less)
 
     pub next_is : (o : Obstacle) → IsObstacle (problem_at g t n no_shot) (roles_in w) w.part.nodes o
@@ -107,7 +107,7 @@ module _ (w : SearchValue) (are : IsSearching w) where
     -- the search with a watch that is right, of the same edges or of others
     pub searching_rewatched : (now : Watched) → now.edge_count ≡ w.watched.edge_count
         → IsWatched (problem_at g t n no_shot) (roles_in w) w.part.nodes now.edges
-        → AreBounded (slack_at (problem_at g t n no_shot) w.part.nodes) now → IsSearching (rewatched_search now w)
+        → AreBounded (slack_at (problem_at g t n no_shot) (roles_in w) w.part.nodes) now → IsSearching (rewatched_search now w)
     searching_rewatched now room watched bounded = record {
       job = are.job;
       slot = are.slot;
@@ -121,6 +121,6 @@ module _ (w : SearchValue) (are : IsSearching w) where
           let here : IsWatched (problem_at w.part.job.graph t n no_shot) (roles_in w) w.part.nodes now.edges = rw (← eg) watched in
           record { within = here.within; near = λ k less over apart. here.near k less over apart };
       bounds =
-          let here : AreBounded (slack_at (problem_at w.part.job.graph t n no_shot) w.part.nodes) now = rw (← eg) bounded in
+          let here : AreBounded (slack_at (problem_at w.part.job.graph t n no_shot) (roles_in w) w.part.nodes) now = rw (← eg) bounded in
           λ i less. here i less;
     }

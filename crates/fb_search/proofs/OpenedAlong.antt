@@ -14,11 +14,11 @@ use Rattle.fb_laws.proofs.OpenedBlossoms.{distinct_permuted, in_permuted}
 use Rattle.fb_half.specs.Matchings.{match_links, matched_names}
 use Rattle.fb_trees.specs.Replacements.{first_node, way_of}
 use Rattle.fb_trees.specs.TreeLinks.{map_pass}
-use Rattle.fb_search.specs.InternalOpenings.{couples_on, even_on, links_left, place_on, rest_on, round_on, second_nodes, turned_on, way_on}
+use Rattle.fb_search.specs.InternalOpenings.{couples_on, even_on, links_left, place_on, rest_on, round_on, turned_on, way_on}
 use Rattle.fb_search.proofs.Agreed.{nodes_of}
 use Rattle.fb_search.proofs.OpenedPlaces.{IsPlacedOn, links_of, node_at_place, nodes-append, others_of, place_within, placed_on, round_is, turned_links, turned_nodes}
 use Rattle.fb_search.proofs.OpenedRounds.{even_place, even_place_even, even_round_is, round_at_is, round_by}
-use Rattle.fb_search.proofs.OpenedWays.{couple_by, couples_nodes, placed_couples, placed_links, placed_nodes, placed_passes, way_nodes, way_plus}
+use Rattle.fb_search.proofs.OpenedWays.{couple_by, couples_nodes, placed_couples, placed_links, placed_nodes, placed_passes, way_nodes}
 
 -- the same nodes and links in the other direction
 even_nodes : (r : List CycleStep) (name : ℕ) → IsPermutation (nodes_of r) (nodes_of (even_on r name))
@@ -164,11 +164,6 @@ module _ (cycle : List CycleStep) (above below : ℕ) (distinct : AreDistinct (n
 
   pub couples_listed : matched_names (couples_on rest) ≡ nodes_of rest
   couples_listed = couples_nodes rest rest_even
-
-  pub plus_listed : second_nodes way ≡ map (λ p. p.plus) (way_of way)
-  plus_listed =
-      ap second_nodes even_at.way
-      ∙ (way_plus even_at.before even_at.here before_even ∙ ap (λ w. map (λ p. p.plus) (way_of w)) (sym even_at.way))
 
   pub way_listed : nodes_of way ≡ paired_on (first_node way) (way_of way) ++ last_of (first_node way) (way_of way) ∷ []
   way_listed =

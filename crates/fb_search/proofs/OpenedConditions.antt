@@ -1,13 +1,12 @@
 -- What the calls that open a minus blossom ask for.
-use Rattle.std.proofs.Common.{ℕ, ◌≡◌, ◌%◌, ◌⊎◌, inl, inr, All, true, false, List, [], ◌∷◌, ◌++◌, map, length, Option, sym, ap, ◌∙◌, subst, arith}
+use Rattle.std.proofs.Common.{ℕ, ◌≡◌, ◌%◌, ◌⊎◌, inl, inr, All, true, false, List, [], ◌∷◌, ◌++◌, length, Option, sym, ap, ◌∙◌, subst, arith}
 use Rattle.std.specs.List.Sorted.{IsPermutation}
 use Rattle.std.proofs.lemmas.Bool.{both_ways, false_from_ne_true, false≢true, or_cases}
 use Rattle.std.proofs.lemmas.List.{length-map, map-append}
 use Rattle.std.proofs.lemmas.List.Concat.{flat_map-append}
 use Rattle.fb_graph.specs.Parity.{is_in}
 use Rattle.fb_graph.specs.Certificate.{AreDistinct}
-use Rattle.fb_graph.specs.Dual.{Node, is_live, is_outer}
-use Rattle.fb_graph.specs.Moves.{split_nodes}
+use Rattle.fb_graph.specs.Dual.{Node, is_outer}
 use Rattle.fb_graph.specs.Nests.{AreMany, IsNest}
 use Rattle.fb_graph.proofs.Among.{All_among, among_All}
 use Rattle.fb_graph.proofs.Places.{IsPlaced, placed}
@@ -27,28 +26,15 @@ use Rattle.fb_half.specs.Matchings.{listed_names, match_links, matched_names}
 use Rattle.fb_half.specs.Translations.{children_at, ring_at, ring_links}
 use Rattle.fb_trees.specs.Replacements.{AreLinkedOn, MayOpen, first_node, way_from, way_of}
 use Rattle.fb_trees.specs.Rooted.{is_node}
-use Rattle.fb_search.specs.InternalOpenings.{couples_on, links_left, rest_on, second_nodes, way_on}
+use Rattle.fb_search.specs.InternalOpenings.{couples_on, links_left, rest_on, way_on}
 use Rattle.fb_search.specs.InternalSearching.{IsSearching, SearchValue, problem_of, unmatched_in}
 use Rattle.fb_search.proofs.Agreed.{nodes_of, on_is_in}
-use Rattle.fb_search.proofs.OpenedAlong.{couples_listed, first_is, links_parted, nodes_parted, plus_listed, way_listed, way_odd}
+use Rattle.fb_search.proofs.OpenedAlong.{couples_listed, first_is, links_parted, nodes_parted, way_listed, way_odd}
 use Rattle.fb_search.proofs.OpenedNames.{along_way, names-along}
-use Rattle.fb_search.proofs.OpenedSplits.{child_live, child_was_inner, children_many}
+use Rattle.fb_search.proofs.OpenedSplits.{child_was_inner, children_many}
 use Rattle.fb_search.proofs.Openings.{Opens, round_in}
 use Rattle.fb_graph.proofs.Floods.{is_in-both, is_in-left, is_in-right}
 use Rattle.fb_graph.proofs.Members.{distinct_left, is_in-append}
-
-seconds_within : (steps : List CycleStep) (n : ℕ) → is_in (second_nodes steps) n ≡ true → is_in (nodes_of steps) n ≡ true
-seconds_within [] n there = absurd (false≢true there)
-seconds_within (s ∷ []) n there = absurd (false≢true there)
-seconds_within (s ∷ t ∷ ss) n there = by (is_in-cases t.node (second_nodes ss) n there) (seconds_within ss n)
-  where
-    by : (t.node ≡ n) ⊎ (is_in (second_nodes ss) n ≡ true)
-        → (is_in (second_nodes ss) n ≡ true → is_in (nodes_of ss) n ≡ true) → is_in (nodes_of (s ∷ t ∷ ss)) n ≡ true
-    by (inl e) later =
-        subst (λ x. is_in (nodes_of (s ∷ t ∷ ss)) x ≡ true) e
-        (is_in-tail s.node (nodes_of (t ∷ ss)) t.node (is_in-head t.node (nodes_of ss)))
-    by (inr h) later =
-        is_in-tail s.node (nodes_of (t ∷ ss)) n (is_in-tail t.node (nodes_of ss) n (later h))
 
 in_front : (t s : ℕ) (grown matched : List ℕ) (id : ℕ) → is_in (grown ++ matched) id ≡ true → is_in ((t ∷ grown) ++ (s ∷ matched)) id ≡ true
 in_front t s grown matched id there = by (or_cases (is_in grown id) (is_in matched id) (sym (is_in-append grown matched id) ∙ there))
@@ -181,9 +167,6 @@ module _ (w : SearchValue) (name : ℕ) (e : EntryOf ℕ) (above below : ℕ) (a
   way_named =
       way_listed cycle above below many.distinct odd above_on below_on ∙ ap (λ n. along_way n (way_of way)) way_first
 
-  pub way_seconds : second_nodes way ≡ map (λ p. p.plus) (way_of way)
-  way_seconds = plus_listed cycle above below many.distinct odd above_on below_on
-
   pub couples_named : matched_names (couples_on rest) ≡ nodes_of rest
   couples_named = couples_listed cycle above below many.distinct odd above_on below_on
 
@@ -263,10 +246,3 @@ module _ (w : SearchValue) (name : ℕ) (e : EntryOf ℕ) (above below : ℕ) (a
       ∙ is_in-right (grown_on (way_of way) ++ matched_on (way_of way))
       (match_links (couples_on rest) ++ links_left (round_in w.part name above below) below) id
       (is_in-right (match_links (couples_on rest)) (links_left (round_in w.part name above below) below) id there)))
-
-  pub plus_live : All (λ n. is_live (split_nodes name w.part.nodes) n ≡ true) (second_nodes way)
-  plus_live =
-      All-from_is_in (λ n. is_live (split_nodes name w.part.nodes) n ≡ true) (second_nodes way)
-      (λ n there.
-      child_live (problem_of w) w.part.nodes name (nodes_of cycle) opens.may_split nest children_are n
-      (way_within n (seconds_within way n there)))

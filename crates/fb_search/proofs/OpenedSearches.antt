@@ -1,24 +1,19 @@
 -- A minus blossom opened keeps what every search keeps, and leaves less to do.
 use Rattle.std.proofs.Common.{ℕ, true, false, List, Option, refl, ap, ◌∙◌}
-use Rattle.fb_search.proofs.CoversBefore.{covered_unsplit}
 use Rattle.fb_graph.specs.Limits.{IsWithinLimits}
-use Rattle.fb_graph.specs.Moves.{split_nodes}
-use Rattle.fb_graph.proofs.SplitNests.{height}
 use Rattle.fb_blossoms.specs.Nodes as blossoms
 use Rattle.fb_laws.specs.Trees.{EntryOf}
 use Rattle.fb_trees.specs.Branches.{Grown}
-use Rattle.fb_obstacles.specs.Obstacles.{slack_at}
 use Rattle.fb_obstacles.specs.Watched.{Watched}
 use Rattle.fb_search.specs.InternalProgress.{GoesOn}
 use Rattle.fb_search.specs.InternalSearching.{IsSearching, SearchValue, problem_of}
 use Rattle.fb_search.proofs.Agreed.{agreed_split}
-use Rattle.fb_search.proofs.KeptBounds.{bounded_still}
 use Rattle.fb_search.proofs.KeptNodes.{beside_split}
 use Rattle.fb_search.proofs.OpenedConditions.{rest, way_opens}
 use Rattle.fb_search.proofs.OpenedMatchings.{matching_opened}
 use Rattle.fb_search.proofs.OpenedNumbers.{links_after}
 use Rattle.fb_search.proofs.OpenedSearchStates.{less_opened, state_opened}
-use Rattle.fb_search.proofs.OpenedWatches.{watch_opened}
+use Rattle.fb_search.proofs.OpenedWatches.{bounded_opened, watch_opened}
 use Rattle.fb_search.proofs.Openings.{HasOpened, Opens, opened_search}
 use Rattle.fb_graph.specs.Parity.{is_in}
 use Rattle.fb_laws.specs.Works.{names_without}
@@ -38,11 +33,7 @@ module _ (w : SearchValue) (name : ℕ) (e : EntryOf ℕ) (above below : ℕ) (a
     matching = matching_opened w name e above below are opens links store tree watched has;
     room = has.watches.room ∙ are.room;
     watch = watch_opened w name e above below are opens links store tree watched has limits;
-    bounds =
-        bounded_still (problem_of w) w.part.nodes (split_nodes name w.part.nodes) watched
-        (height (problem_of w) w.part.nodes name opens.may_split are.state.1.search.nest)
-        (covered_unsplit (problem_of w) w.part.nodes name are.state.1.search.nest)
-        (has.watches.bounds (slack_at (problem_of w) w.part.nodes) are.bounds);
+    bounds = bounded_opened w name e above below are opens links store tree watched has;
   }
 
   pub goes_on_opened : HasOpened w name above below links store tree watched

@@ -113,11 +113,3 @@ module _ (p : Problem) (nodes : List Node) (name : ℕ) (children : List ℕ) (m
       (split_among name nodes over.node over.among (λ e. other (sym over.named ∙ e)))
       (stays_outer over.node.name over.outer) over.holds
       ∙ ap Some over.named
-
-  -- and covered before, if it was outer
-  pub cover_was : (v n : ℕ) → cover_of (split_nodes name nodes) v ≡ Some n → is_outer nodes n ≡ true → cover_of nodes v ≡ Some n
-  cover_was v n cover outer =
-      let over = cover_among (split_nodes name nodes) v n cover in
-      covered_by nodes v nest.dual.apart over.node (among_split name nodes over.node over.among).0
-      (ap (is_outer nodes) over.named ∙ outer) over.holds
-      ∙ ap Some over.named

@@ -1,6 +1,8 @@
--- Which edges are watched after a minus blossom is opened: those at its children that become plus come under watch.
-use Rattle.std.proofs.Common.{ℕ, ◌≡◌, ◌≢◌, ◌<◌, ◌⊎◌, inl, inr, true, List, [], ◌∷◌, ◌++◌, map, flat_map, length, All, Option, Some, refl, sym, ap, ◌∙◌, subst, append_assoc}
-use Rattle.std.proofs.lemmas.Bool.{false≢true}
+-- Which edges are watched after a minus blossom is opened, and which bounds stay right: all edges at its vertices come
+-- under watch.
+use Rattle.std.proofs.Common.{ℕ, ◌≡◌, ◌≢◌, ◌<◌, ◌⊎◌, inl, inr, true, false, List, [], ◌∷◌, ◌++◌, map, length, All, Option, Some, None, is_some, refl, sym, ap, ◌∙◌, subst, append_assoc}
+use Rattle.std.proofs.lemmas.Bool.{both_ways, cases_Bool, false_from_ne_true, false≢true}
+use Rattle.std.proofs.lemmas.List.{map-append}
 use Rattle.fb_graph.specs.Parity.{is_in}
 use Rattle.fb_graph.specs.Problem.{Problem, edge_at, touches}
 use Rattle.fb_graph.specs.Covers.{is_covered_by, passes}
@@ -8,29 +10,30 @@ use Rattle.fb_graph.specs.Dual.{AreUnderOne, Node, cover_of, is_outer, top_at}
 use Rattle.fb_graph.specs.Limits.{IsWithinLimits}
 use Rattle.fb_graph.specs.Moves.{split_nodes}
 use Rattle.fb_graph.specs.Steps.{Roles}
-use Rattle.fb_graph.proofs.Among.{All_among, cover_among, top_among}
-use Rattle.fb_graph.proofs.Places.{among_split, split_names}
 use Rattle.fb_graph.proofs.Sets.{is_in-cases, is_in-head, is_in-tail}
 use Rattle.fb_links.specs.declared.cycle.CycleStep.{CycleStep}
 use Rattle.fb_blossoms.specs.Nodes as blossoms
-use Rattle.fb_laws.specs.OpenedCycles.{PassOf, opened_branches, opened_tree}
+use Rattle.fb_graph.proofs.SplitNests.{height}
+use Rattle.fb_laws.specs.OpenedCycles.{PassOf, last_of, opened_branches, opened_tree, paired_on}
 use Rattle.fb_laws.specs.Trees.{EntryOf, minus_names, plus_names}
+use Rattle.fb_laws.proofs.SearchTrees.{cover_set}
 use Rattle.fb_trees.specs.Branches.{Grown}
 use Rattle.fb_trees.specs.Replacements.{way_of}
-use Rattle.fb_obstacles.specs.Obstacles.{IsWatched}
-use Rattle.fb_obstacles.specs.Watched.{Watched}
-use Rattle.fb_search.specs.InternalOpenings.{second_nodes}
+use Rattle.fb_obstacles.specs.Obstacles.{IsWatched, slack_at}
+use Rattle.fb_obstacles.specs.Watched.{AreBounded, Watched}
 use Rattle.fb_search.specs.InternalSearching.{IsSearching, SearchValue, problem_of, roles_in}
 use Rattle.fb_search.proofs.Agreed.{nodes_of}
 use Rattle.fb_search.proofs.BegunSearches.{touches_first, touches_second}
+use Rattle.fb_search.proofs.CoversBefore.{covered_unsplit}
+use Rattle.fb_search.proofs.KeptBounds.{IsMilder, milder_under, slack_away}
 use Rattle.fb_search.proofs.KeptWatches.{IsWatchedAt}
-use Rattle.fb_search.proofs.OpenedConditions.{children_are, cycle, nest, way, way_opens, way_seconds}
+use Rattle.fb_search.proofs.OpenedConditions.{children_are, cycle, inner, nest, way, way_named, way_opens, way_within}
 use Rattle.fb_search.proofs.OpenedNumbers.{after, branches_are}
-use Rattle.fb_search.proofs.OpenedSplits.{cover_stays, cover_was}
+use Rattle.fb_search.proofs.OpenedSplits.{cover_stays}
 use Rattle.fb_search.proofs.Openings.{HasOpened, Opens}
-use Rattle.fb_search.proofs.RolesInTree.{plus_in_tree}
+use Rattle.fb_search.proofs.RolesInTree.{minus_in_tree, minus_not_plus, minus_role, plus_in_tree}
 use Rattle.fb_search.proofs.Runs.{tree_roles}
-use Rattle.fb_search.proofs.TakenVertices.{plus_over}
+use Rattle.fb_search.proofs.SearchRoles.{outer_live}
 use Rattle.fb_search.proofs.AttachedBranches.{plus_role}
 use Rattle.fb_links.proofs.MovedLinks.{Table}
 use Rattle.fb_graph.proofs.Floods.{is_in-left, is_in-right}
@@ -138,19 +141,48 @@ plus_opened root (x ∷ xs) e older from way n there =
         (is_in-head x.plus (plus_names root (xs ++ e ∷ older))))
     by (inr h) rest = step (rest h)
 
-in_flat : (g : ℕ → List ℕ) (names : List ℕ) (n v : ℕ) → is_in names n ≡ true → is_in (g n) v ≡ true
-    → is_in (flat_map g names) v ≡ true
-in_flat g [] n v there held = there
-in_flat g (x ∷ xs) n v there held = by (is_in-cases x xs n there) (λ h. in_flat g xs n v h held)
+-- nodes along the way that become plus
+plus_on_way : (from : ℕ) (way : List (PassOf ℕ)) (n : ℕ) → is_in (map (λ s. s.plus) way) n ≡ true
+    → is_in (paired_on from way) n ≡ true
+plus_on_way from [] n there = there
+plus_on_way from (s ∷ ss) n there =
+    is_in-tail from (s.plus ∷ paired_on s.minus ss) n
+    (by (is_in-cases s.plus (map (λ s. s.plus) ss) n there) (plus_on_way s.minus ss n))
   where
-    by : (x ≡ n) ⊎ (is_in xs n ≡ true) → (is_in xs n ≡ true → is_in (flat_map g xs) v ≡ true)
-        → is_in (g x ++ flat_map g xs) v ≡ true
-    by (inl same) rest = is_in-left (g x) (flat_map g xs) v (ap (λ y. is_in (g y) v) same ∙ held)
-    by (inr h) rest = is_in-right (g x) (flat_map g xs) v (rest h)
+    by : (s.plus ≡ n) ⊎ (is_in (map (λ s. s.plus) ss) n ≡ true)
+        → (is_in (map (λ s. s.plus) ss) n ≡ true → is_in (paired_on s.minus ss) n ≡ true)
+        → is_in (s.plus ∷ paired_on s.minus ss) n ≡ true
+    by (inl same) rest =
+        subst (λ x. is_in (s.plus ∷ paired_on s.minus ss) x ≡ true) same (is_in-head s.plus (paired_on s.minus ss))
+    by (inr h) rest = is_in-tail s.plus (paired_on s.minus ss) n (rest h)
+
+-- the minus nodes beside the blossom stay minus
+minus_opened : (newer : List (EntryOf ℕ)) (e : EntryOf ℕ) (older : List (EntryOf ℕ)) (from : ℕ) (way : List (PassOf ℕ))
+    (n : ℕ) → n ≢ e.minus → is_in (minus_names (newer ++ e ∷ older)) n ≡ true
+    → is_in (minus_names (opened_tree newer e older from way)) n ≡ true
+minus_opened [] e older from way n other there = by (is_in-cases e.minus (minus_names older) n there)
+  where
+    along : List (EntryOf ℕ)
+    along = opened_branches e.parent e.tree from way e.matched e.plus
+
+    by : (e.minus ≡ n) ⊎ (is_in (minus_names older) n ≡ true) → is_in (minus_names (along ++ older)) n ≡ true
+    by (inl same) = absurd (other (sym same))
+    by (inr h) =
+        ap (λ l. is_in l n) (map-append (λ x. x.minus) along older) ∙ is_in-right (minus_names along) (minus_names older) n h
+minus_opened (x ∷ xs) e older from way n other there =
+    by (is_in-cases x.minus (minus_names (xs ++ e ∷ older)) n there) (minus_opened xs e older from way n other)
+  where
+    by : (x.minus ≡ n) ⊎ (is_in (minus_names (xs ++ e ∷ older)) n ≡ true)
+        → (is_in (minus_names (xs ++ e ∷ older)) n ≡ true → is_in (minus_names (opened_tree xs e older from way)) n ≡ true)
+        → is_in (x.minus ∷ minus_names (opened_tree xs e older from way)) n ≡ true
+    by (inl same) rest =
+        subst (λ y. is_in (x.minus ∷ minus_names (opened_tree xs e older from way)) y ≡ true) same
+        (is_in-head x.minus (minus_names (opened_tree xs e older from way)))
+    by (inr h) rest = is_in-tail x.minus (minus_names (opened_tree xs e older from way)) n (rest h)
 
 module _ (w : SearchValue) (name : ℕ) (e : EntryOf ℕ) (above below : ℕ) (are : IsSearching w)
     (opens : Opens w name e above below) (links : Table) (store : List (Option blossoms.Node)) (tree : Grown) (watched : Watched)
-    (has : HasOpened w name above below links store tree watched) (limits : IsWithinLimits (problem_of w)) where
+    (has : HasOpened w name above below links store tree watched) where
   abbrev Cycle : List ℕ
   Cycle = nodes_of (cycle w name e above below are opens)
 
@@ -163,57 +195,72 @@ module _ (w : SearchValue) (name : ℕ) (e : EntryOf ℕ) (above below : ℕ) (a
   abbrev After : SearchValue
   After = after w name e above below are opens links store tree watched has
 
-  -- the edges at a vertex of a child that is plus now
-  now_watched : (v m : ℕ) → cover_of Others v ≡ Some m → is_in (map (λ s. s.plus) (way_of Way)) m ≡ true
-      → IsWatchedAt (problem_of w) Others watched.edges v
-  now_watched v m cover plus k less ends apart = has.watches.near v k held less (touch ends)
+  -- the blossom held the vertex
+  abbrev WasHeld : ℕ → Type 0
+  WasHeld v = is_in (top_at w.part.nodes name) v ≡ true
+
+  held_by : (v n : ℕ) → cover_of w.part.nodes v ≡ Some n → n ≡ name → WasHeld v
+  held_by v n cover same =
+      (cover_set w.part.nodes v name (nest w name e above below are opens).dual.names (cover ∙ ap (λ x. Some x) same)).1
+
+  -- over a vertex beside it is the same node as before
+  same_cover : (v : ℕ) → ¬ WasHeld v → cover_of Others v ≡ cover_of w.part.nodes v
+  same_cover v away = by (cover_of w.part.nodes v) refl
     where
-      held : is_in (flat_map (top_at Others) (second_nodes Way)) v ≡ true
-      held =
-          let over = cover_among Others v m cover in
-          in_flat (top_at Others) (second_nodes Way) m v
-          (ap (λ l. is_in l m) (way_seconds w name e above below are opens) ∙ plus)
-          (ap (λ x. is_in (top_at Others x) v) (sym over.named)
-          ∙ (ap (λ t. is_in t v)
-          (top_among Others (split_names name w.part.nodes (nest w name e above below are opens).dual.names) over.node over.among)
-          ∙ over.holds))
+      by : (o : Option ℕ) → cover_of w.part.nodes v ≡ o → cover_of Others v ≡ cover_of w.part.nodes v
+      by None cover = none (cover_of Others v) refl ∙ sym cover
+        where
+          none : (o : Option ℕ) → cover_of Others v ≡ o → cover_of Others v ≡ None
+          none None is = is
+          none (Some m) is =
+              absurd (false≢true (sym (ap (λ o. is_some o) cover)
+              ∙ covered_unsplit (problem_of w) w.part.nodes name (nest w name e above below are opens) v
+              (ap (λ o. is_some o) is)))
+      by (Some n) cover =
+          cover_stays (problem_of w) w.part.nodes name Cycle opens.may_split (nest w name e above below are opens)
+          (children_are w name e above below are opens) v n cover (λ same. away (held_by v n cover same))
+          ∙ sym cover
 
-      touch : ((edge_at (problem_of w).edges k).first ≡ v) ⊎ ((edge_at (problem_of w).edges k).second ≡ v)
-          → touches v (edge_at (problem_of w).edges k) ≡ true
-      touch (inl same) =
-          ap (λ u. touches u (edge_at (problem_of w).edges k)) (sym same) ∙ touches_first (problem_of w) k limits less
-      touch (inr same) =
-          ap (λ u. touches u (edge_at (problem_of w).edges k)) (sym same) ∙ touches_second (problem_of w) k limits less
-
-  over_now : (v : ℕ) → is_covered_by (roles_in After).is_plus Others v ≡ true
-      → (is_covered_by (roles_in w).is_plus w.part.nodes v ≡ true) ⊎ IsWatchedAt (problem_of w) Others watched.edges v
-  over_now v over =
-      let (m, cover, plus) = plus_over (roles_in After).is_plus Others v over in
-      by m cover
-      (plus_opened w.tree.root opens.branch.newer e opens.branch.older above (way_of Way) m
-      (ap (λ t. is_in (plus_names w.tree.root t) m) (sym (branches_are w name e above below are opens links store tree watched has))
-      ∙ (ap (λ r. is_in (plus_names r tree.branches) m) (sym has.grown.root) ∙ plus_in_tree tree m plus)))
+  -- an outer node that is plus now was plus before
+  plus_was : (n : ℕ) → is_outer w.part.nodes n ≡ true → is_in (plus_names tree.root tree.branches) n ≡ true
+      → is_in (plus_names w.tree.root w.tree.branches) n ≡ true
+  plus_was n outer plus =
+      by
+      (plus_opened w.tree.root opens.branch.newer e opens.branch.older above (way_of Way) n
+      (ap (λ t. is_in (plus_names w.tree.root t) n)
+      (sym (branches_are w name e above below are opens links store tree watched has))
+      ∙ (ap (λ r. is_in (plus_names r tree.branches) n) (sym has.grown.root) ∙ plus)))
     where
-      old : (m : ℕ) → cover_of Others v ≡ Some m → is_in (plus_names w.tree.root w.tree.branches) m ≡ true
-          → is_covered_by (roles_in w).is_plus w.part.nodes v ≡ true
-      old m cover plus =
-          let over = cover_among Others v m cover in
-          let outer : is_outer w.part.nodes m ≡ true =
-          ap (is_outer w.part.nodes) (sym over.named)
-          ∙ All_among (λ n. is_in (plus_names w.tree.root w.tree.branches) n.name ≡ true → is_outer w.part.nodes n.name ≡ true)
-          w.part.nodes (tree_roles w are).plus over.node (among_split name w.part.nodes over.node over.among).0
-          (ap (is_in (plus_names w.tree.root w.tree.branches)) over.named ∙ plus) in
-          ap (passes (roles_in w).is_plus)
-          (cover_was (problem_of w) w.part.nodes name Cycle opens.may_split (nest w name e above below are opens)
-          (children_are w name e above below are opens) v m cover outer)
-          ∙ plus_role w.tree m plus
+      by : (is_in (plus_names w.tree.root (opens.branch.newer ++ e ∷ opens.branch.older)) n ≡ true)
+          ⊎ (is_in (map (λ s. s.plus) (way_of Way)) n ≡ true) → is_in (plus_names w.tree.root w.tree.branches) n ≡ true
+      by (inl h) = ap (λ t. is_in (plus_names w.tree.root t) n) opens.branch.there ∙ h
+      by (inr h) =
+          absurd
+          (both_ways (is_outer w.part.nodes n)
+          (inner w name e above below are opens n
+          (way_within w name e above below are opens n
+          (ap (λ l. is_in l n) (way_named w name e above below are opens)
+          ∙ is_in-left (paired_on above (way_of Way)) (last_of above (way_of Way) ∷ []) n (plus_on_way above (way_of Way) n h))))
+          outer)
 
-      by : (m : ℕ) → cover_of Others v ≡ Some m
-          → (is_in (plus_names w.tree.root (opens.branch.newer ++ e ∷ opens.branch.older)) m ≡ true)
-          ⊎ (is_in (map (λ s. s.plus) (way_of Way)) m ≡ true)
-          → (is_covered_by (roles_in w).is_plus w.part.nodes v ≡ true) ⊎ IsWatchedAt (problem_of w) Others watched.edges v
-      by m cover (inl h) = inl (old m cover (ap (λ t. is_in (plus_names w.tree.root t) m) opens.branch.there ∙ h))
-      by m cover (inr h) = inr (now_watched v m cover h)
+  -- and one that was minus still is, but for the blossom
+  minus_still : (n : ℕ) → is_outer w.part.nodes n ≡ true → n ≢ name → (roles_in w).is_minus n ≡ true
+      → (roles_in After).is_minus n ≡ true
+  minus_still n outer other minus =
+      let not_plus : is_in (plus_names tree.root tree.branches) n ≡ false =
+      false_from_ne_true (is_in (plus_names tree.root tree.branches) n)
+      (λ plus.
+      both_ways (is_in (plus_names w.tree.root w.tree.branches) n) (minus_not_plus w.tree n minus) (plus_was n outer plus)) in
+      minus_role tree n not_plus
+      (ap (λ t. is_in (minus_names t) n) (branches_are w name e above below are opens links store tree watched has)
+      ∙ minus_opened opens.branch.newer e opens.branch.older above (way_of Way) n (λ same. other (same ∙ opens.branch.minus))
+      (ap (λ t. is_in (minus_names t) n) (sym opens.branch.there) ∙ minus_in_tree w.tree n minus))
+
+  milder_opened : (v : ℕ) → ¬ WasHeld v → IsMilder (roles_in w) (roles_in After) w.part.nodes Others v
+  milder_opened v away =
+      milder_under (roles_in w) (roles_in After) w.part.nodes Others v (same_cover v away)
+      (λ n cover plus. plus_role w.tree n (plus_was n (outer_live w are v n cover).1 (plus_in_tree tree n plus)))
+      (λ n cover minus. minus_still n (outer_live w are v n cover).1 (λ same. away (held_by v n cover same)) minus)
 
   together : (u v : ℕ) → is_covered_by (roles_in w).is_plus w.part.nodes u ≡ true → AreUnderOne w.part.nodes u v
       → AreUnderOne Others u v
@@ -233,7 +280,35 @@ module _ (w : SearchValue) (name : ℕ) (e : EntryOf ℕ) (above below : ℕ) (a
           cover_stays (problem_of w) w.part.nodes name Cycle opens.may_split (nest w name e above below are opens)
           (children_are w name e above below are opens) x m at other
 
-  pub watch_opened : IsWatched (problem_of w) (roles_in After) Others watched.edges
-  watch_opened =
+  over_now : IsWithinLimits (problem_of w) → (v : ℕ) → is_covered_by (roles_in After).is_plus Others v ≡ true
+      → (is_covered_by (roles_in w).is_plus w.part.nodes v ≡ true) ⊎ IsWatchedAt (problem_of w) Others watched.edges v
+  over_now limits v over = by (cases_Bool (is_in (top_at w.part.nodes name) v))
+    where
+      touch : (k : ℕ) → k < length (problem_of w).edges
+          → ((edge_at (problem_of w).edges k).first ≡ v) ⊎ ((edge_at (problem_of w).edges k).second ≡ v)
+          → touches v (edge_at (problem_of w).edges k) ≡ true
+      touch k less (inl same) =
+          ap (λ u. touches u (edge_at (problem_of w).edges k)) (sym same) ∙ touches_first (problem_of w) k limits less
+      touch k less (inr same) =
+          ap (λ u. touches u (edge_at (problem_of w).edges k)) (sym same) ∙ touches_second (problem_of w) k limits less
+
+      by : WasHeld v ⊎ (is_in (top_at w.part.nodes name) v ≡ false)
+          → (is_covered_by (roles_in w).is_plus w.part.nodes v ≡ true)
+          ⊎ IsWatchedAt (problem_of w) Others watched.edges v
+      by (inl held) = inr (λ k less ends apart. has.watches.near v k held less (touch k less ends))
+      by (inr out) = inl ((milder_opened v (λ held. both_ways (is_in (top_at w.part.nodes name) v) out held)).plus over)
+
+  pub watch_opened : IsWithinLimits (problem_of w) → IsWatched (problem_of w) (roles_in After) Others watched.edges
+  watch_opened limits =
       watch_kept_over (problem_of w) (roles_in w) (roles_in After) w.part.nodes Others w.watched.edges watched.edges are.watch
-      (subst (λ n. All (λ k. k < n) watched.edges) (has.watches.room ∙ are.room) has.within) has.watches.kept over_now together
+      (subst (λ n. All (λ k. k < n) watched.edges) (has.watches.room ∙ are.room) has.within) has.watches.kept
+      (over_now limits) together
+
+  pub bounded_opened : AreBounded (slack_at (problem_of w) (roles_in After) Others) watched
+  bounded_opened =
+      has.watches.bounds (slack_at (problem_of w) (roles_in w) w.part.nodes) (slack_at (problem_of w) (roles_in After) Others)
+      (λ k away.
+      slack_away (roles_in w) (roles_in After) w.part.nodes Others WasHeld (edge_at (problem_of w).edges k)
+      (height (problem_of w) w.part.nodes name opens.may_split (nest w name e above below are opens)) milder_opened
+      (λ u v at_u at_v one. (one.0, same_cover u at_u ∙ one.1, same_cover v at_v ∙ one.2)) away)
+      are.bounds

@@ -11,7 +11,7 @@ use Rattle.fb_half.specs.Matchings.{match_links, matched_names}
 use Rattle.fb_half.specs.declared.matches.Match.{Match}
 use Rattle.fb_trees.specs.Replacements.{first_node, way_of}
 use Rattle.fb_trees.specs.TreeLinks.{map_pass}
-use Rattle.fb_search.specs.InternalOpenings.{between_on, couples_on, link_on, links_left, place_on, rest_on, second_nodes, way_on}
+use Rattle.fb_search.specs.InternalOpenings.{between_on, couples_on, link_on, links_left, place_on, rest_on, way_on}
 use Rattle.fb_search.proofs.Agreed.{nodes_of}
 use Rattle.fb_search.proofs.OpenedPlaces.{IsPlacedOn, links_of, nodes-append, others_of}
 
@@ -93,13 +93,6 @@ way_nodes [] s even = refl
 way_nodes (a ∷ []) s even = absurd (let e : 1 ≡ 0 = even in omega arith)
 way_nodes (a ∷ b ∷ []) s even = refl
 way_nodes (a ∷ b ∷ c ∷ cs) s even = ap (λ l. a.node ∷ b.node ∷ l) (way_nodes (c ∷ cs) s (omega (arith, even)))
-
-pub way_plus : (before : List CycleStep) (s : CycleStep) → length before % 2 ≡ 0
-    → second_nodes (before ++ s ∷ []) ≡ map (λ p. p.plus) (way_of (before ++ s ∷ []))
-way_plus [] s even = refl
-way_plus (a ∷ []) s even = absurd (let e : 1 ≡ 0 = even in omega arith)
-way_plus (a ∷ b ∷ []) s even = refl
-way_plus (a ∷ b ∷ c ∷ cs) s even = ap (λ l. b.node ∷ l) (way_plus (c ∷ cs) s (omega (arith, even)))
 
 two_links : (x y : ℕ) (ls xs ys : List ℕ) → IsPermutation ls (xs ++ ys) → IsPermutation (x ∷ y ∷ ls) (y ∷ (xs ++ x ∷ ys))
 two_links x y ls xs ys moved =

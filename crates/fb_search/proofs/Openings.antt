@@ -1,5 +1,5 @@
 -- A minus blossom opened by a search: what the calls ask for, what they make of the parts, and the search afterwards.
-use Rattle.std.proofs.Common.{ℕ, ◌<◌, All, List, ◌++◌, flat_map, Option}
+use Rattle.std.proofs.Common.{ℕ, ◌<◌, All, List, ◌++◌, Option}
 use Rattle.fb_graph.specs.Dual.{top_at}
 use Rattle.fb_graph.specs.Moves.{MaySplit, split_nodes}
 use Rattle.fb_laws.specs.Trees.{EntryOf}
@@ -13,7 +13,7 @@ use Rattle.fb_trees.specs.Replacements.{IsOpened}
 use Rattle.fb_trees.specs.Rooted.{IsBranchAt}
 use Rattle.fb_obstacles.specs.Watched.{Watched}
 use Rattle.fb_search.specs.InternalEndings.{Forgets}
-use Rattle.fb_search.specs.InternalOpenings.{EndsAtChild, couples_on, even_on, links_left, round_on, second_nodes, way_on}
+use Rattle.fb_search.specs.InternalOpenings.{EndsAtChild, couples_on, even_on, links_left, round_on, way_on}
 use Rattle.fb_search.specs.InternalSearching.{SearchValue, problem_of}
 use Rattle.fb_obstacles.specs.InternalWatching.{Watches}
 
@@ -47,6 +47,4 @@ pub record HasOpened (w : SearchValue) (name above below : ℕ) (links : List (O
   pub grown : IsOpened w.tree name (way_on (round_in w.part name above below) below) tree
   pub forgets : Forgets (links_left (round_in w.part name above below) below) w.part.links links
   pub within : All (λ k. k < watched.edge_count) watched.edges
-  pub watches : Watches (problem_of w)
-      (flat_map (top_at (split_nodes name w.part.nodes)) (second_nodes (way_on (round_in w.part name above below) below)))
-      w.watched watched
+  pub watches : Watches (problem_of w) (top_at w.part.nodes name) w.watched watched

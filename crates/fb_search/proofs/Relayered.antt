@@ -110,7 +110,7 @@ pub searching_relayered : (w : SearchValue) (f : Node → Node) (watched : Watch
     → IsSearchState (problem_of w) (relayered_state (map f w.part.nodes) (state_at w are.state.0))
     → watched.edge_count ≡ w.watched.edge_count
     → IsWatched (problem_of w) (roles_in w) (map f w.part.nodes) watched.edges
-    → AreBounded (slack_at (problem_of w) (map f w.part.nodes)) watched
+    → AreBounded (slack_at (problem_of w) (roles_in w) (map f w.part.nodes)) watched
     → IsSearching (relayered_by f watched w)
 searching_relayered w f watched are kept alike state room watch bounds = record {
   job = are.job;

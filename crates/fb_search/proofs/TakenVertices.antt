@@ -1,9 +1,8 @@
 -- A vertex that a plus node absorbs keeps what every search keeps, and leaves less to do.
-use Rattle.std.proofs.Common.{ℕ, ◌≡◌, ◌==◌, ◌<◌, ◌⊎◌, inl, inr, Bool, true, false, List, length, All, Option, Some, None, IsSome, is_some, refl, sym, ap, ◌∙◌, subst, if◌then◌else◌, ◌≤◌, ◌/◌, ◌*◌, ◌&&◌, cond, arith}
-use Rattle.std.proofs.lemmas.Bool.{false≢true, eqb-true, cases_lt}
-use Rattle.std.proofs.lemmas.List.{get_or_past}
-use Rattle.fb_graph.specs.Parity.{is_in, differ}
-use Rattle.fb_graph.specs.Problem.{Problem, edge_at, touches, no_edge}
+use Rattle.std.proofs.Common.{ℕ, ◌≡◌, ◌==◌, ◌<◌, ◌⊎◌, inl, inr, Bool, true, false, List, length, All, Option, Some, None, IsSome, refl, sym, ap, ◌∙◌, subst}
+use Rattle.std.proofs.lemmas.Bool.{false≢true, eqb-true, ne_eqb}
+use Rattle.fb_graph.specs.Parity.{is_in}
+use Rattle.fb_graph.specs.Problem.{Problem, edge_at, touches}
 use Rattle.fb_graph.specs.declared.parts.Edge.{Edge}
 use Rattle.fb_graph.specs.Limits.{DecodingGraph, IsWithinLimits, no_shot}
 use Rattle.fb_graph.specs.Covers.{is_covered_by, passes}
@@ -25,14 +24,14 @@ use Rattle.fb_trees.proofs.TightWalks.{ends_told}
 use Rattle.fb_plan.specs.Plans.{PlanTree, problem_at}
 use Rattle.fb_half.specs.Parts.{PartValue, problem_in}
 use Rattle.fb_half.specs.Translations.{link_by}
-use Rattle.fb_obstacles.specs.Obstacles.{IsAbsorb, IsWatched, slack_at, residue_of}
+use Rattle.fb_obstacles.specs.Obstacles.{IsAbsorb, IsWatched, slack_at}
 use Rattle.fb_obstacles.specs.InternalWatching.{WatchesTaken}
-use Rattle.fb_obstacles.specs.Watched.{Watched}
+use Rattle.fb_obstacles.specs.Watched.{AreBounded, Watched}
 use Rattle.fb_obstacles.proofs.LeftEdges.{watched_at, watched_elsewhere}
-use Rattle.fb_obstacles.proofs.WatchSteps.{bounded_by}
 use Rattle.fb_search.specs.InternalProgress.{GoesOn}
 use Rattle.fb_search.specs.InternalSearching.{IsSearching, SearchValue, problem_of, roles_in, state_at}
 use Rattle.fb_search.proofs.BegunSearches.{touches_first, touches_second}
+use Rattle.fb_search.proofs.KeptBounds.{slack_beside}
 use Rattle.fb_search.proofs.KeptNodes.{beside_taller}
 use Rattle.fb_search.proofs.Relayered.{relayered_by, searching_relayered}
 use Rattle.fb_search.proofs.Runs.{roles_by_numbers}
@@ -83,60 +82,13 @@ module _ (p : Problem) (roles : Roles) (nodes : List Node) (name v : ℕ) (limit
                 taller_covers nodes name v (edge_at p.edges k).second eb ∙ at_second,
               )
 
--- the slacks after a node absorbs a vertex: at the vertex at least half of what they were, elsewhere the same
-module _ (p : Problem) (nodes : List Node) (name v : ℕ) (limits : IsWithinLimits p) (free : cover_of nodes v ≡ None)
-    (heights : (u : ℕ) → height_of (all_cuts (absorbed_nodes name v nodes)) u ≡ height_of (all_cuts nodes) u) where
-  at_taken : (u : ℕ) → (v == u) ≡ true → is_some (cover_of nodes u) ≡ false
-  at_taken u e = ap (λ x. is_some (cover_of nodes x)) (sym (eqb-true v u e)) ∙ ap (λ o. is_some o) free
-
-  elsewhere : (u : ℕ) → (v == u) ≡ false → is_some (cover_of (absorbed_nodes name v nodes) u) ≡ is_some (cover_of nodes u)
-  elsewhere u e = ap (λ o. is_some o) (taller_covers nodes name v u e)
-
-  -- no edge leads from a vertex to itself
-  no_loop : (k : ℕ) → (v == (edge_at p.edges k).first) ≡ true → (v == (edge_at p.edges k).second) ≡ true
-      → residue_of nodes (edge_at p.edges k) ≡ 0
-  no_loop k first second = by (cases_lt k (length p.edges))
-    where
-      by : (k < length p.edges) ⊎ (length p.edges ≤ k) → residue_of nodes (edge_at p.edges k) ≡ 0
-      by (inl less) = absurd ((limits.each_edge k no_edge less).loopless
-          (sym (eqb-true v (edge_at p.edges k).first first) ∙ eqb-true v (edge_at p.edges k).second second))
-      by (inr past) = omega (arith, ap (λ (e : Edge). e.weight) (get_or_past p.edges k no_edge past))
-
-  slack_taken : (k : ℕ) → (if touches v (edge_at p.edges k) then slack_at p nodes k / 2 else slack_at p nodes k)
-      ≤ slack_at p (absorbed_nodes name v nodes) k
-  slack_taken k =
-      by (v == e.first) (v == e.second) (is_some (cover_of nodes e.first)) (is_some (cover_of nodes e.second))
-      (is_some (cover_of (absorbed_nodes name v nodes) e.first)) (is_some (cover_of (absorbed_nodes name v nodes) e.second))
-      (at_taken e.first) (elsewhere e.first) (at_taken e.second) (elsewhere e.second) (no_loop k)
-    where
-      e : Edge
-      e = edge_at p.edges k
-
-      was : ℕ
-      was = residue_of nodes e
-
-      now : ℕ
-      now = residue_of (absorbed_nodes name v nodes) e
-
-      same : now ≡ was
-      same = omega (arith, heights e.first, heights e.second)
-
-      by : (a b x y z t : Bool) → (a ≡ true → x ≡ false) → (a ≡ false → z ≡ x) → (b ≡ true → y ≡ false) → (b ≡ false → t ≡ y)
-          → (a ≡ true → b ≡ true → was ≡ 0)
-          → cond (differ a b) (cond (x && y) was (2 * was) / 2) (cond (x && y) was (2 * was)) ≤ cond (z && t) now (2 * now)
-      by true true x y z t f g h i none = rw (f refl) (omega (arith, none refl refl))
-      by true false x y true true f g h i none = rw (f refl) (omega (arith, same))
-      by true false x y true false f g h i none = rw (f refl) (omega (arith, same))
-      by true false x y false t f g h i none = rw (f refl) (omega (arith, same))
-      by false true true y true true f g h i none = rw (h refl) (omega (arith, same))
-      by false true true y true false f g h i none = rw (h refl) (omega (arith, same))
-      by false true true y false t f g h i none = rw (h refl) (omega (arith, same))
-      by false true false y true true f g h i none = omega (arith, same)
-      by false true false y true false f g h i none = omega (arith, same)
-      by false true false y false t f g h i none = omega (arith, same)
-      by false false true true z t f g h i none = rw (g refl, i refl) (omega (arith, same))
-      by false false true false z t f g h i none = rw (g refl, i refl) (omega (arith, same))
-      by false false false y z t f g h i none = rw (g refl) (omega (arith, same))
+  bounded_taken : ((u : ℕ) → height_of (all_cuts (absorbed_nodes name v nodes)) u ≡ height_of (all_cuts nodes) u)
+      → AreBounded (slack_at p roles nodes) old → AreBounded (slack_at p roles (absorbed_nodes name v nodes)) new
+  bounded_taken heights =
+      watched.bounds (slack_at p roles nodes) (slack_at p roles (absorbed_nodes name v nodes))
+      (λ k away.
+      slack_beside roles nodes (absorbed_nodes name v nodes) v (edge_at p.edges k) heights
+      (λ u other. taller_covers nodes name v u (ne_eqb v u other)) away)
 
 -- the search with the vertex in the node, and with these edges watched
 abbrev pub raised : ℕ → ℕ → Watched → SearchValue → SearchValue
@@ -166,11 +118,7 @@ searching_raised w k u v name new are limits may within watched =
       within = subst (λ n. All (λ j. j < n) new.edges) (watched.room ∙ are.room) within;
       near = near_taken (problem_of w) (roles_in w) w.part.nodes name v limits w.watched new watched are.watch;
     })
-    (bounded_by
-    (λ k. if touches v (edge_at (problem_of w).edges k) then slack_at (problem_of w) w.part.nodes k / 2 else slack_at (problem_of w) w.part.nodes k)
-    (slack_at (problem_of w) (absorbed_nodes name v w.part.nodes)) new
-    (slack_taken (problem_of w) w.part.nodes name v limits may.uncovered alike.heights)
-    (watched.bounds (slack_at (problem_of w) w.part.nodes) are.bounds))
+    (bounded_taken (problem_of w) (roles_in w) w.part.nodes name v limits w.watched new watched are.watch alike.heights are.bounds)
   where
     outer : is_outer w.part.nodes name ≡ true
     outer =

@@ -1,5 +1,5 @@
 -- The cycle of a tree that a link closes, and what becomes of the watch and of the unmatched nodes as it becomes a blossom.
-use Rattle.std.specs.Prelude.{ℕ, ◌≡◌, ◌≢◌, ◌<◌, true, List, [], ◌∷◌, length}
+use Rattle.std.specs.Prelude.{ℕ, ◌≡◌, ◌≢◌, ◌<◌, ◌≤◌, true, false, List, [], ◌∷◌, length}
 use Rattle.std.specs.List.Sorted.{IsPermutation}
 use Rattle.fb_graph.specs.Parity.{is_in}
 use Rattle.fb_graph.specs.Problem.{Problem, edge_at, touches}
@@ -29,13 +29,16 @@ pub record Closes (w : SearchValue) (a b closing : ℕ) : Type 0 where
 abbrev pub IsClosedBy : SearchValue → ℕ → List CycleStep → Type 0
 IsClosedBy w closing steps = (a b : ℕ) × Closes w a b closing × IsCycle w.tree a b closing steps
 
--- The edges at each minus node among these are watched, and all that were watched before. Bounds that are right stay so.
+-- The edges at each minus node among these are watched, and all that were watched before. The bounds of other edges stay right.
 pub record WatchesMinus (p : Problem) (nodes : List Node) (tree : Grown) (names : List ℕ) (old new : Watched) : Type 0 where
   pub room : new.edge_count ≡ old.edge_count
   pub kept : (k : ℕ) → is_in old.edges k ≡ true → is_in new.edges k ≡ true
   pub near : (name v k : ℕ) → is_in names name ≡ true → role_in tree name ≡ Minus → is_in (top_at nodes name) v ≡ true
       → k < length p.edges → touches v (edge_at p.edges k) ≡ true → is_in new.edges k ≡ true
-  pub bounds : (limit : ℕ → ℕ) → AreBounded limit old → AreBounded limit new
+  pub bounds : (before after : ℕ → ℕ)
+      → ((k : ℕ) → ((name v : ℕ) → is_in names name ≡ true → role_in tree name ≡ Minus → is_in (top_at nodes name) v ≡ true
+      → touches v (edge_at p.edges k) ≡ false) → before k ≤ after k)
+      → AreBounded before old → AreBounded after new
 
 -- The new name is listed as unmatched in the place of the old one. Both may be the same.
 pub record IsReplacedBy (old_name new_name : ℕ) (before after : MatchingValue) : Type 0 where

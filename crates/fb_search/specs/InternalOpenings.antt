@@ -52,11 +52,6 @@ abbrev pub between_on : List CycleStep → List ℕ
 between_on (s ∷ t ∷ ss) = t.link ∷ between_on ss
 between_on ss = []
 
--- the nodes of every second step
-abbrev pub second_nodes : List CycleStep → List ℕ
-second_nodes (s ∷ t ∷ ss) = t.node ∷ second_nodes ss
-second_nodes ss = []
-
 -- the link of the node's step
 abbrev pub link_on : List CycleStep → ℕ → ℕ
 link_on [] name = 0

@@ -14,7 +14,7 @@ use Rattle.fb_half.specs.Values.{part_of}
 use Rattle.fb_half.specs.Translations.{cycles_by, entry_by, link_by}
 use Rattle.fb_trees.specs.Branches.{Grown}
 use Rattle.fb_trees.specs.Rooted.{role_in}
-use Rattle.fb_obstacles.specs.Obstacles.{IsWatched, slack_at, roles_by}
+use Rattle.fb_obstacles.specs.Obstacles.{IsWatched, roles_by, slack_at}
 use Rattle.fb_obstacles.specs.Watched.{AreBounded, Watched}
 use Rattle.fb_search.specs.declared.searching.Pieces.{Pieces}
 
@@ -65,7 +65,7 @@ pub record IsSearchingBeside (more : List ℕ) (w : SearchValue) : Type 0 where
   pub room : w.watched.edge_count ≡ length (problem_of w).edges
   pub watch : IsWatched (problem_of w) (roles_in w) w.part.nodes w.watched.edges
   -- no bound is above the slack of its edge
-  pub bounds : AreBounded (slack_at (problem_of w) w.part.nodes) w.watched
+  pub bounds : AreBounded (slack_at (problem_of w) (roles_in w) w.part.nodes) w.watched
 
 -- what every search keeps between its steps
 abbrev pub IsSearching : SearchValue → Type 0

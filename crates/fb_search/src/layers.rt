@@ -29,11 +29,18 @@ impl Searching<'_> {
         watch.keeps();
     }
 
-    /// Removes the empty top layer of the minus node. The edges that lead to its last vertex are watched already.
+    /// Removes the empty top layer of the minus node, so that no node holds its last vertex any longer. The edges of that
+    /// vertex are watched from now on, and nothing is known of their slacks.
     pub(crate) fn uncover(&mut self, node: NodeId)
         requires { Obstructs (problem_of self.old) (roles_in self.old) self.old.part.nodes (LayerEmpty node) }
         ensures { GoesOn self.old self.new }
     {
-        self.parts.regions.uncover(node);
+        let Searching { parts, watch, .. } = self;
+        let scope = *parts.regions.scope();
+        scope.limits();
+        let freed = parts.regions.last_vertex(node);
+        parts.regions.uncover(node);
+        watch_taken(watch, &scope, &parts.regions, freed);
+        watch.keeps();
     }
 }

@@ -1,21 +1,20 @@
-ghost use Rattle.std.specs.Prelude.{◌≡◌, ◌≢◌, ◌<◌, ℕ, true, ◌∷◌, All, Some, IfOk, OnOk, flat_map, length};
-ghost use Rattle.fb_graph.specs.Dual.{cover_of, is_live, top_at};
+ghost use Rattle.std.specs.Prelude.{◌≡◌, ◌≢◌, ◌<◌, ℕ, true, ◌∷◌, Some, IfOk, OnOk, length};
+ghost use Rattle.fb_graph.specs.Dual.{cover_of};
 ghost use Rattle.fb_blossoms.specs.Nodes.{is_on};
 ghost use Rattle.fb_half.specs.Values.{HasScope, part_of};
 ghost use Rattle.fb_obstacles.specs.Obstacles.{Obstructs};
 ghost use Rattle.fb_obstacles.specs.declared.obstacle.Obstacle.TheVariants.{BlossomEmpty};
-ghost use Rattle.fb_search.specs.InternalOpenings.{EndsAtChild, MayEnter, between_on, couples_on, even_on, links_left, place_on, rest_on, round_on, second_nodes, turned_on, way_on};
+ghost use Rattle.fb_search.specs.InternalOpenings.{EndsAtChild, MayEnter, between_on, couples_on, even_on, links_left, place_on, rest_on, round_on, turned_on, way_on};
 ghost use Rattle.fb_search.specs.InternalPieces.{AreSearching};
 ghost use Rattle.fb_search.specs.InternalProgress.{GoesOn};
 ghost use Rattle.fb_search.specs.InternalSearching.{IsSearching, problem_of, roles_in, search_of};
-ghost use Rattle.fb_obstacles.specs.InternalWatching.{Watches};
 
 use crate::ending::{add_matches, forget_all};
 use crate::pieces::into_searching;
 use crate::searching::{Pieces, Searching};
 use fb_graph::{NoMemory, Scope};
 use fb_half::{Match, Parts};
-use fb_obstacles::{Watch, watch_node};
+use fb_obstacles::watch_node;
 use fb_regions::{NodeId, Regions};
 use fb_trees::{CycleStep, LinkId};
 use std::alloc::Global;
@@ -35,7 +34,8 @@ impl<'a> Searching<'a> {
 }
 
 /// Opens the minus blossom, puts the children on the even path between its two links in its place in the tree, and
-/// matches the others in pairs.
+/// matches the others in pairs. All edges at its vertices are watched from now on, and nothing is known of their slacks,
+/// since some of the children become plus.
 fn open_node(alloc: Global, pieces: &mut Pieces<'_>, node: NodeId) -> Result<(), NoMemory>
     requires scope { HasScope pieces.old.parts }
     requires search { IsSearching (search_of pieces.old) }
@@ -44,7 +44,10 @@ fn open_node(alloc: Global, pieces: &mut Pieces<'_>, node: NodeId) -> Result<(),
     ensures { OnOk result (AreSearching (search_of pieces.old) pieces.new) }
 {
     let Pieces { parts, tree, watch } = pieces;
-    parts.regions.scope().limits();
+    let scope = *parts.regions.scope();
+    scope.limits();
+    watch_node(watch, &scope, &parts.regions, node);
+    watch.keeps();
     let branch = tree.branch(node);
     let above = child_at(parts, node, branch.tree);
     let below = child_at(parts, node, branch.matched);
@@ -53,8 +56,6 @@ fn open_node(alloc: Global, pieces: &mut Pieces<'_>, node: NodeId) -> Result<(),
     let apart = taken_apart(alloc, &cycle, above, below)?;
     tree.replace(alloc, &[node], &apart.way, &parts.links)?;
     forget_all(&mut parts.links, &apart.left);
-    watch_plus(watch, &parts.regions, &apart.way);
-    watch.keeps();
     add_matches(alloc, &mut parts.matching, &apart.matches)
 }
 
@@ -223,18 +224,4 @@ fn links_left(alloc: Global, first: LinkId, steps: &[CycleStep]) -> Result<Vec<L
         i += 2;
     }
     Ok(links)
-}
-
-/// Watches the edges at each second node of the way, which is plus.
-fn watch_plus<S: Scope>(watch: &mut Watch, regions: &Regions<S>, way: &[CycleStep])
-    requires live { All (λ name. is_live regions.now.nodes name ≡ true) (second_nodes way.now) }
-    requires room { watch.old.edge_count ≡ length (S.problem regions.now.scope).edges }
-    ensures { Watches (S.problem regions.now.scope)
-        (flat_map (top_at regions.now.nodes) (second_nodes way.now)) watch.old watch.new }
-{
-    let mut i = 0;
-    while i + 1 < way.len() {
-        watch_node(watch, regions.scope(), regions, way[i + 1].node);
-        i += 2;
-    }
 }

@@ -1,6 +1,5 @@
-use Rattle.fb_obstacles.specs.Obstacles.{slack_at}
+use Rattle.fb_obstacles.proofs.BoundedScans.{scanned_requeued}
 use Rattle.fb_obstacles.proofs.bounding.look_by_bounds.Goals as goal
 
-pub returns-clause-bounded : goal.returns-clause-bounded
-returns-clause-bounded g c =
-    c.requeue.ensures.bounds (slack_at (g.S.Scope.problem c.args.scope.now) c.args.regions.now.nodes) c.scan_by_bounds-look.ensures.bounded
+pub returns-clause-scanned : goal.returns-clause-scanned
+returns-clause-scanned g c = scanned_requeued _ _ _ _ _ _ _ _ c.scan_by_bounds-look.ensures.scanned c.requeue.ensures

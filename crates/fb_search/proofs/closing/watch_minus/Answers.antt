@@ -6,9 +6,13 @@ use Rattle.fb_regions.specs.contracts.roles.Role.{the_type}
 use Rattle.fb_regions.specs.declared.roles.Role.TheVariants.{Minus}
 use Rattle.fb_search.specs.InternalClosings.{WatchesMinus}
 use Rattle.fb_obstacles.specs.InternalWatching.{Watches}
-use Rattle.fb_search.proofs.ClosedWatches.{minus_on, minus_past}
+use Rattle.fb_search.proofs.ClosedWatches.{minus_first, minus_on, minus_past}
 use Rattle.fb_search.proofs.closing.watch_minus.Goals as goal
 use Rattle.fb_search.proofs.closing.watch_minus.Goals.{then-eq, else-eq}
+
+pub loop-node-init : goal.loop-node-init
+loop-node-init g c =
+    minus_first (g.S.Scope.problem c.args.regions.now.scope) c.args.regions.now.nodes c.args.tree.now c.args.watch.now
 
 pub loop-node-preserved : goal.loop-node-preserved
 loop-node-preserved g c =

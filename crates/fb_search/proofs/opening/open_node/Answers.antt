@@ -1,8 +1,6 @@
-use Rattle.std.proofs.Common.{◌≡◌, ◌++◌, true, All, List, sym, subst, ap, ◌∙◌}
+use Rattle.std.proofs.Common.{◌≡◌, ◌++◌, true, All, List, length, sym, subst, ap, ◌∙◌}
 use Rattle.std.proofs.lemmas.Result.{IfOk-weaker}
 use Rattle.fb_graph.specs.Certificate.{AreDistinct}
-use Rattle.fb_graph.specs.Dual.{is_live}
-use Rattle.fb_graph.specs.Moves.{split_nodes}
 use Rattle.fb_links.specs.Table as table
 use Rattle.fb_links.specs.declared.cycle.CycleStep.{CycleStep}
 use Rattle.fb_blossoms.specs.Nodes.{is_on}
@@ -11,12 +9,12 @@ use Rattle.fb_half.specs.Matchings.{listed_names, matched_names}
 use Rattle.fb_trees.specs.Branches.{entry_of}
 use Rattle.fb_trees.specs.Replacements.{AreLinkedOn, IsOpened, MayOpen}
 use Rattle.fb_search.specs.InternalEndings.{Forgets}
-use Rattle.fb_search.specs.InternalOpenings.{couples_on, even_on, links_left, rest_on, round_on, second_nodes, way_on}
+use Rattle.fb_search.specs.InternalOpenings.{couples_on, even_on, links_left, rest_on, round_on, way_on}
 use Rattle.fb_search.specs.InternalSearching.{SearchValue, search_of}
 use Rattle.fb_search.proofs.Agreed.{cycle_there, outer_in_store}
 use Rattle.fb_search.proofs.BegunSearches.{kept_limits, kept_watches}
 use Rattle.fb_search.proofs.BranchEnds.{enters_above, enters_below, opens_by}
-use Rattle.fb_search.proofs.OpenedConditions.{couples_fresh, left_distinct, left_live, plus_live, way_linked, way_opens}
+use Rattle.fb_search.proofs.OpenedConditions.{couples_fresh, left_distinct, left_live, way_linked, way_opens}
 use Rattle.fb_search.proofs.OpenedMatchings.{opened_listed}
 use Rattle.fb_search.proofs.OpenedSearches.{goes_on_opened, searching_opened}
 use Rattle.fb_search.proofs.Openings.{HasOpened, Opens}
@@ -99,7 +97,7 @@ add_matches-requires c =
     let cycle = c.deref.ensures.value ∙ c.open_up-cycle.ensures.cycle in
     let parts = λ (cycle : List CycleStep). even_on (round_on cycle c.child_at-above.result) c.child_at-below.result in
     subst (λ ms. AreDistinct (listed_names w.part.matching ++ matched_names ms))
-    (sym (c.deref-5.ensures.value ∙ c.in_ok-apart.ensures.matches
+    (sym (c.deref-4.ensures.value ∙ c.in_ok-apart.ensures.matches
     ∙ ap (λ l. couples_on (rest_on (parts l) c.child_at-below.result)) cycle))
     (couples_fresh w c.args.node e c.child_at-above.result c.child_at-below.result c.requires.search opens)
 
@@ -130,20 +128,13 @@ forget_all-requires-clause-distinct c =
     ∙ ap (λ l. links_left (parts l) c.child_at-below.result) cycle))
     (left_distinct w c.args.node e c.child_at-above.result c.child_at-below.result c.requires.search opens)
 
-pub watch_plus-requires-clause-live : goal.watch_plus-requires-clause-live
-watch_plus-requires-clause-live c =
-    let w : SearchValue = search_of c.args.pieces.now in
-    let e = entry_of c.branch-branch.result in
-    let opens : Opens w c.args.node e c.child_at-above.result c.child_at-below.result =
-    opens_by w c.args.node e c.child_at-above.result c.child_at-below.result c.requires.search c.requires.empty.1
-    c.branch-branch.ensures c.child_at-above.ensures c.child_at-below.ensures in
-    let cycle = c.deref.ensures.value ∙ c.open_up-cycle.ensures.cycle in
-    let parts = λ (cycle : List CycleStep). even_on (round_on cycle c.child_at-above.result) c.child_at-below.result in
-    rw (c.in_ok-split_node.ensures.ok)
-    (subst (λ l. All (λ n. is_live (split_nodes c.args.node w.part.nodes) n ≡ true) (second_nodes l))
-    (sym (c.deref-4.ensures.value ∙ c.in_ok-apart.ensures.way
-    ∙ ap (λ l. way_on (parts l) c.child_at-below.result) cycle))
-    (plus_live w c.args.node e c.child_at-above.result c.child_at-below.result c.requires.search opens))
+pub watch_node-requires-clause-live : goal.watch_node-requires-clause-live
+watch_node-requires-clause-live c = c.requires.empty.1.live
+
+pub watch_node-requires-clause-room : goal.watch_node-requires-clause-room
+watch_node-requires-clause-room c =
+    c.requires.search.room
+    ∙ sym (ap (λ g. length g.edges) (ap (λ (s : NodeScope). s.graph.now) c.scope.ensures ∙ c.requires.scope.graph))
 
 pub returns : goal.returns
 returns c =
@@ -156,11 +147,11 @@ returns c =
     let parts = λ (cycle : List CycleStep). even_on (round_on cycle c.child_at-above.result) c.child_at-below.result in
     let way = c.in_ok-apart.ensures.way
     ∙ ap (λ l. way_on (parts l) c.child_at-below.result) cycle in
-    let matches = c.deref-5.ensures.value ∙ c.in_ok-apart.ensures.matches
+    let matches = c.deref-4.ensures.value ∙ c.in_ok-apart.ensures.matches
     ∙ ap (λ l. couples_on (rest_on (parts l) c.child_at-below.result)) cycle in
-    let watches = rw (c.in_ok-split_node.ensures.ok, c.deref-4.ensures.value ∙ way) at c.watch_plus.ensures in
+    let watches = rw c.scope.ensures at c.watch_node.ensures in
     let has : HasOpened w c.args.node c.child_at-above.result c.child_at-below.result c.forget_all.new.links
-    c.open_up-cycle.new.self c.replace.new.self c.watch_plus.new.watch = record {
+    c.open_up-cycle.new.self c.replace.new.self c.watch_node.new.watch = record {
       taken_off = c.open_up-cycle.ensures.rest;
       grown = subst (λ l. IsOpened w.tree c.args.node l c.replace.new.self) (c.deref-2.ensures.value ∙ way)
           c.in_ok-replace.ensures.ok;
@@ -169,7 +160,7 @@ returns c =
           ∙ ap (λ l. links_left (parts l) c.child_at-below.result) cycle) c.forget_all.ensures;
       within = c.keeps.ensures.within;
       watches = kept_watches w.part c.args.pieces.now.parts.regions.scope.graph.now c.args.pieces.now.parts.regions.scope.plan.now
-          c.args.pieces.now.parts.regions.scope.node _ w.watched c.watch_plus.new.watch c.requires.scope.graph watches;
+          c.args.pieces.now.parts.regions.scope.node _ w.watched c.watch_node.new.watch c.requires.scope.graph watches;
     } in
     let scope = c.requires.scope in
     let limits = kept_limits w.part c.scope.result.now.graph.now c.scope.result.now.plan.now c.scope.result.now.node
@@ -180,7 +171,7 @@ returns c =
     (IfOk-weaker _ _ _
     (λ _
     (added : c.add_matches.new.matching
-    ≡ record { matches = w.part.matching.matches ++ c.deref-5.result.now; unmatched = w.part.matching.unmatched }).
+    ≡ record { matches = w.part.matching.matches ++ c.deref-4.result.now; unmatched = w.part.matching.unmatched }).
     rw (added, matches) (record {
       scope = record {
         graph = scope.graph;
@@ -188,10 +179,10 @@ returns c =
         node = scope.node;
         listed =
             opened_listed w c.args.node e c.child_at-above.result c.child_at-below.result c.requires.search opens
-            c.forget_all.new.links c.open_up-cycle.new.self c.replace.new.self c.watch_plus.new.watch has c.args.pieces.now.parts.seams scope.listed;
+            c.forget_all.new.links c.open_up-cycle.new.self c.replace.new.self c.watch_node.new.watch has c.args.pieces.now.parts.seams scope.listed;
       };
       keeps = searching_opened w c.args.node e c.child_at-above.result c.child_at-below.result c.requires.search opens
-          c.forget_all.new.links c.open_up-cycle.new.self c.replace.new.self c.watch_plus.new.watch limits has;
+          c.forget_all.new.links c.open_up-cycle.new.self c.replace.new.self c.watch_node.new.watch limits has;
       goes_on = goes_on_opened w c.args.node e c.child_at-above.result c.child_at-below.result c.requires.search opens
-          c.forget_all.new.links c.open_up-cycle.new.self c.replace.new.self c.watch_plus.new.watch has;
+          c.forget_all.new.links c.open_up-cycle.new.self c.replace.new.self c.watch_node.new.watch has;
     })) c.add_matches.ensures)

@@ -1,6 +1,6 @@
 use Rattle.std.proofs.Common.{◌≤◌, ◌-◌, length}
 use Rattle.fb_obstacles.specs.InternalWatch.{Reorders}
-use Rattle.fb_obstacles.proofs.watching.Watch.requeue.Given as goal
+use Rattle.fb_obstacles.proofs.watching.Watch.queue_from.Given as goal
 
 abbrev pub invariant-loop-place : goal.invariant-loop-place
 invariant-loop-place l = record {

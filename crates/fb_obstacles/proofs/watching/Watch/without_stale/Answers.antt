@@ -1,0 +1,7 @@
+use Rattle.std.proofs.Common.{refl}
+use Rattle.fb_obstacles.proofs.watching.Watch.without_stale.Goals as goal
+
+pub returns : goal.returns
+returns c =
+    rw c.leave_queue.ensures
+    (record { count = refl; edges = λ e. refl; len = refl; bounds = λ limit right. right })
