@@ -9,7 +9,7 @@ use crate::obstacles::{Expected, Found, Scan};
 use crate::roles::DrawnRoles;
 use crate::stopped::Stopped;
 use fb_graph::Steps;
-use fb_obstacles::{next_obstacle, next_obstacle_by_bounds};
+use fb_obstacles::next_obstacle;
 use std::alloc::{AllocError, Global};
 use std::marker::Brand;
 use std::sync::ledger::{Blank, Ledger};
@@ -46,8 +46,6 @@ pub struct Asker {
     alloc: Global,
     /// How often `next_obstacle` gave each kind of answer, in the order of `KINDS`.
     pub answers: [u64; 8],
-    /// The same of `next_obstacle_by_bounds`.
-    pub answers_by_bounds: [u64; 8],
 }
 
 impl Asker {
@@ -55,14 +53,12 @@ impl Asker {
         Asker {
             alloc,
             answers: [0; 8],
-            answers_by_bounds: [0; 8],
         }
     }
 
     /// How many answers were as expected.
     pub fn passed(&self) -> u64 {
-        let all = self.answers.iter().chain(self.answers_by_bounds.iter());
-        all.sum()
+        self.answers.iter().sum()
     }
 
     /// Asks about trees of random roles, one after another with one watch, and ends at one of the obstacles. A tree that is
@@ -92,7 +88,7 @@ impl Asker {
         Ok(())
     }
 
-    /// Asks both calls about the tree, and compares their answers and the watched edges with what is expected.
+    /// Asks about the tree, and compares the answer and the watched edges with what is expected.
     pub fn compare_answers(
         &mut self,
         game: &mut Game<'_>,
@@ -110,19 +106,16 @@ impl Asker {
             roles,
         };
         let expected = scan.expected()?;
-        let (answer, by_bounds) = both_answers::<Brand>(game, roles, Blank::new(1));
-        self.expect("next_obstacle", roles, answer, &expected)?;
+        let answer = answer_of::<Brand>(game, roles, Blank::new(1));
+        self.expect(roles, answer, &expected)?;
+        game.compare_watch(self.alloc, roles)?;
         self.answers[kind_of(answer)] += 1;
-        self.expect("next_obstacle_by_bounds", roles, by_bounds, &expected)?;
-        game.compare_watch(self.alloc)?;
-        self.answers_by_bounds[kind_of(by_bounds)] += 1;
         Ok(answer)
     }
 
     /// Stops if the answer isn't one that is expected.
     fn expect(
         &self,
-        call: &str,
         roles: &DrawnRoles,
         answer: Found,
         expected: &Expected,
@@ -132,31 +125,25 @@ impl Asker {
         }
         let (plus, minus) = (&roles.plus, &roles.minus);
         let text = format!(in self.alloc;
-            "{call} for plus nodes {plus:?} and minus nodes {minus:?} is {answer:?}, expected {expected:?}"
+            "next_obstacle for plus nodes {plus:?} and minus nodes {minus:?} is {answer:?}, expected {expected:?}"
         )?;
         Err(Stopped::Differ(text))
     }
 }
 
-/// Whether the conditions of both calls are met that change as the tree steps.
+/// Whether those conditions of the call are met that change as the tree steps.
 fn may_ask(game: &Game<'_>, roles: &DrawnRoles) -> bool {
     roles.have_one_parity(&game.readings)
-        && game.watched.are_bounded(game.plain.graph, &game.readings)
+        && game.watched.are_bounded(game.plain.graph, &game.readings, roles)
 }
 
-/// What each of the two calls says of the tree.
-fn both_answers<L: Ledger>(
-    game: &mut Game<'_>,
-    roles: &DrawnRoles,
-    looks: Blank,
-) -> (Found, Found) {
+/// What the call says of the tree.
+fn answer_of<L: Ledger>(game: &mut Game<'_>, roles: &DrawnRoles, looks: Blank) -> Found {
     let mut looks = Steps::<L>::new(looks);
     let regions = &game.regions;
     let watch = &mut game.watched.watch;
     let scope = regions.scope();
-    let answer = next_obstacle(watch, scope, regions, roles, &mut looks);
-    let by_bounds = next_obstacle_by_bounds(watch, scope, regions, roles, &mut looks);
-    (Found::of(answer), Found::of(by_bounds))
+    Found::of(next_obstacle(watch, scope, regions, roles, &mut looks))
 }
 
 /// Each minus node shrinks by this length, and then each plus node grows by it. No residue falls by more than twice as much.

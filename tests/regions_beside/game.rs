@@ -146,10 +146,10 @@ impl<'a> Game<'a> {
             .renew(alloc, draws, self.plain.graph, &self.readings, roles)
     }
 
-    /// Compares the watched edges after a search by bounds.
-    pub fn compare_watch(&mut self, alloc: Global) -> Result<(), Stopped> {
+    /// Compares the watched edges after a call for these roles.
+    pub fn compare_watch(&mut self, alloc: Global, roles: &DrawnRoles) -> Result<(), Stopped> {
         self.watched
-            .compare(alloc, self.plain.graph, &self.readings)
+            .compare(alloc, self.plain.graph, &self.readings, roles)
     }
 
     /// Whether a blossom of this name was split.

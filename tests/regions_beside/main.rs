@@ -71,12 +71,7 @@ fn print_counts(rt: &impl Print, player: &Player) -> io::Result<()> {
     println!(rt; "names used again: {named_again}")?;
     let (deep, deepest) = (player.deep, player.deepest);
     println!(rt; "nests of ten or more blossoms: {deep} times, the deepest of {deepest}")?;
-    print_answers(rt, "next_obstacle", &player.asker.answers)?;
-    print_answers(
-        rt,
-        "next_obstacle_by_bounds",
-        &player.asker.answers_by_bounds,
-    )
+    print_answers(rt, "next_obstacle", &player.asker.answers)
 }
 
 /// Prints how often a call gave each kind of answer.

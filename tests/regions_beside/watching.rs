@@ -42,7 +42,7 @@ impl Watched {
     }
 
     /// Watches each edge that leads from a plus node to another node or none, in a random order, and of the other edges
-    /// some from now on and some no longer.
+    /// some from now on and some no longer. An edge whose bound may be too high for these roles is entered anew.
     pub fn renew(
         &mut self,
         alloc: Global,
@@ -56,7 +56,9 @@ impl Watched {
         for edge in &edges {
             let is_watched = self.limits[*edge as usize].is_some();
             if leaves_plus(readings.covers_of(graph, *edge), roles) {
-                self.enter(*edge);
+                if !is_watched || !self.is_bounded(graph, readings, roles, *edge) || draws.happens(10) {
+                    self.enter(*edge);
+                }
             } else if is_watched && draws.happens(30) {
                 self.leave(*edge);
             } else if draws.happens(20) {
@@ -75,13 +77,10 @@ impl Watched {
         }
     }
 
-    /// Watches the edge from now on.
+    /// Watches the edge from now on, with nothing known of what it bears.
     fn enter(&mut self, edge: u32) {
         self.watch.enter(edge);
-        let limit = &mut self.limits[edge as usize];
-        if limit.is_none() {
-            *limit = Some(0);
-        }
+        self.limits[edge as usize] = Some(0);
     }
 
     /// Watches the edge no longer.
@@ -90,12 +89,17 @@ impl Watched {
         self.limits[edge as usize] = None;
     }
 
-    /// Whether no bound is above its edge's residue.
-    pub fn are_bounded(&self, graph: &Graph, readings: &Readings) -> bool {
-        (0..graph.edge_count()).all(|edge| match self.limits[edge as usize] {
-            Some(most) => most <= readings.residue_of(graph, edge),
+    /// Whether no bound is above twice the step that its edge bears in these roles.
+    pub fn are_bounded(&self, graph: &Graph, readings: &Readings, roles: &DrawnRoles) -> bool {
+        (0..graph.edge_count()).all(|edge| self.is_bounded(graph, readings, roles, edge))
+    }
+
+    /// Whether the edge's bound, if it is watched, isn't above twice the step that the edge bears in these roles.
+    fn is_bounded(&self, graph: &Graph, readings: &Readings, roles: &DrawnRoles, edge: u32) -> bool {
+        match self.limits[edge as usize] {
+            Some(most) => most <= slack_of(graph, readings, roles, edge),
             None => true,
-        })
+        }
     }
 
     /// Compares the edges after a search by bounds. Only those that one outer node holds by both ends may have left.
@@ -104,6 +108,7 @@ impl Watched {
         alloc: Global,
         graph: &Graph,
         readings: &Readings,
+        roles: &DrawnRoles,
     ) -> Result<(), Stopped> {
         let mut count = 0;
         for edge in 0..graph.edge_count() {
@@ -118,7 +123,7 @@ impl Watched {
             }
             self.limits[edge as usize] = if is_watched {
                 count += 1;
-                Some(readings.residue_of(graph, edge))
+                Some(slack_of(graph, readings, roles, edge))
             } else {
                 None
             };
@@ -130,6 +135,22 @@ impl Watched {
             return Err(Stopped::Differ(text));
         }
         Ok(())
+    }
+}
+
+/// Twice the step that the edge bears in these roles: its residue between two plus nodes, twice that where one end alone grows,
+/// and more than any step otherwise.
+fn slack_of(graph: &Graph, readings: &Readings, roles: &DrawnRoles, edge: u32) -> u64 {
+    let covers = readings.covers_of(graph, edge);
+    if is_inner(covers) {
+        return u64::MAX;
+    }
+    let residue = readings.residue_of(graph, edge);
+    match (roles.over(covers.0), roles.over(covers.1)) {
+        (Some(Role::Plus), Some(Role::Plus)) => residue,
+        (Some(Role::Plus), Some(Role::Minus)) | (Some(Role::Minus), Some(Role::Plus)) => u64::MAX,
+        (Some(Role::Plus), _) | (_, Some(Role::Plus)) => 2 * residue,
+        _ => u64::MAX,
     }
 }
 

@@ -20,12 +20,12 @@ use Rattle.fb_laws.proofs.StepLengths.{no_length, greatest_step}
 use Rattle.fb_obstacles.specs.declared.obstacle.Obstacle.{Obstacle}
 use Rattle.fb_obstacles.specs.declared.obstacle.Obstacle.TheVariants as obstacle
 use Rattle.fb_obstacles.specs.declared.looking.Look.{Look}
-use Rattle.fb_obstacles.specs.declared.looking.Look.TheVariants.{Clear, Within, Blocked}
-use Rattle.fb_obstacles.specs.Obstacles.{BearsStep, CountsLooks, IsFree, IsObstacle, IsTightFrom, IsWatched, ListsMinus, Obstructs}
+use Rattle.fb_obstacles.specs.declared.looking.Look.TheVariants.{Within}
+use Rattle.fb_obstacles.specs.Obstacles.{BearsStep, IsFree, IsObstacle, IsTightFrom, IsWatched, ListsMinus, Obstructs}
 use Rattle.fb_obstacles.specs.InnerEdges.{LeavesInner}
 use Rattle.fb_obstacles.specs.Watched.{Watched}
-use Rattle.fb_obstacles.specs.InternalLooks.{BearsShrinking, CountsLooked, Limits, LimitsBoth, both_looks}
-use Rattle.fb_obstacles.proofs.LookLimits.{limits_both, limits_same}
+use Rattle.fb_obstacles.specs.InternalLooks.{BearsShrinking, Limits, LimitsBoth}
+use Rattle.fb_obstacles.proofs.LookLimits.{limits_same}
 use Rattle.fb_obstacles.proofs.NodeLooks.{listed_shrinking, named_place, shrinking_listed}
 
 -- an edge that isn't watched allows each step
@@ -85,17 +85,6 @@ look_limits p roles nodes names watched l dual are lists seen limits =
       shrinking_listed roles nodes names j lists allowed.tops,
       λ i d less. allowed.edges (get_or watched i d) no_edge (seen.within i d less),
     )
-
--- the same of two looks in one
-pub looks_limit : (p : Problem) (roles : Roles) (nodes : List Node) (names watched : List ℕ) (a b : Look) → IsDual p nodes
-    → AreRoles roles nodes → ListsMinus roles nodes names → IsWatched p roles nodes watched
-    → Limits (λ j. All (BearsShrinking nodes j) names) (Obstructs p roles nodes) a
-    → Limits (λ j. All (λ k. BearsStep roles nodes j (edge_at p.edges k)) watched) (Obstructs p roles nodes) b
-    → Limits (MayStep p roles nodes) (Obstructs p roles nodes) (both_looks a b)
-looks_limit p roles nodes names watched a b dual are lists seen first second =
-    look_limits p roles nodes names watched (both_looks a b) dual are lists seen
-    (limits_both (λ j. All (BearsShrinking nodes j) names)
-    (λ j. All (λ k. BearsStep roles nodes j (edge_at p.edges k)) watched) (Obstructs p roles nodes) a b first second)
 
 -- a tight edge from a plus node isn't clear
 tight_is_not_clear : (p : Problem) (roles : Roles) (nodes : List Node) (k u v : ℕ) → HasNoObstacle p roles nodes
@@ -165,7 +154,7 @@ bound_is_free p roles nodes k dual are (some, below, above) = record {
       record { allowed = below k (omega arith); greatest = λ more. let h = above (k + 1) more in absurd (omega arith) };
 }
 
--- an obstacle that stands is one, and any number of looks up to all serves
+-- an obstacle that stands is one
 pub found_obstacle : (p : Problem) (roles : Roles) (nodes : List Node) (o : Obstacle) → Obstructs p roles nodes o
     → IsObstacle p roles nodes o
 found_obstacle p roles nodes (obstacle.Free k) found = absurd found
@@ -176,33 +165,6 @@ found_obstacle p roles nodes (obstacle.PlusPair k) found = found
 found_obstacle p roles nodes (obstacle.LayerEmpty n) found = found
 found_obstacle p roles nodes (obstacle.BlossomEmpty n) found = found
 found_obstacle p roles nodes (obstacle.ZeroMinus n) found = found
-
-pub found_looks : (p : Problem) (roles : Roles) (nodes : List Node) (o : Obstacle) (count before after : ℕ)
-    → Obstructs p roles nodes o → before ≤ after → after ≤ before + count → CountsLooks o count before after
-found_looks p roles nodes (obstacle.Free k) count before after found low high = absurd found
-found_looks p roles nodes (obstacle.Absorb k) count before after found low high = (low, high)
-found_looks p roles nodes (obstacle.Boundary k) count before after found low high = (low, high)
-found_looks p roles nodes (obstacle.Meet k) count before after found low high = (low, high)
-found_looks p roles nodes (obstacle.PlusPair k) count before after found low high = (low, high)
-found_looks p roles nodes (obstacle.LayerEmpty n) count before after found low high = (low, high)
-found_looks p roles nodes (obstacle.BlossomEmpty n) count before after found low high = (low, high)
-found_looks p roles nodes (obstacle.ZeroMinus n) count before after found low high = (low, high)
-
--- whatever was looked at, as many looks were counted at most
-pub looked_at_most : (l : Look) (count before after : ℕ) → CountsLooked l count before after
-    → (before ≤ after) × (after ≤ before + count)
-looked_at_most Clear count before after counted = (omega arith, omega arith)
-looked_at_most (Within k) count before after counted = (omega arith, omega arith)
-looked_at_most (Blocked o) count before after counted = counted
-
--- where no obstacle was found, each edge was looked at
-pub looked_at_all : (a b : Look) (k count before after : ℕ) → both_looks a b ≡ Within k
-    → CountsLooked b count before after → after ≡ before + count
-looked_at_all a Clear k count before after free counted = counted
-looked_at_all a (Within j) k count before after free counted = counted
-looked_at_all (Blocked o) (Blocked n) k count before after free counted = cc
-looked_at_all Clear (Blocked o) k count before after free counted = cc
-looked_at_all (Within j) (Blocked o) k count before after free counted = cc
 
 -- some look bounds the step
 pub some_bound : (p : Problem) (roles : Roles) (nodes : List Node) → IsDual p nodes → AreRoles roles nodes

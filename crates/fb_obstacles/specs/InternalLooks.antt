@@ -149,11 +149,6 @@ pub record HasScanned (p : Problem) (role_of : ℕ → Role) (nodes : List Node)
   pub watched : LeavesInner p nodes old new
   pub bounded : AreBounded (slack_at p (roles_by role_of) nodes) new
 
--- one look is counted for each edge up to the one with an obstacle
-abbrev pub CountsLooked : Look → ℕ → ℕ → ℕ → Type 0
-CountsLooked (Blocked o) count before after = (before ≤ after) × (after ≤ before + count)
-CountsLooked look count before after = after ≡ before + count
-
 -- the edges in a list bear steps of this length, but for those in another list
 abbrev pub BearBeside : Problem → Roles → List Node → (left ks : List ℕ) → ℕ → Type 0
 BearBeside p roles nodes left ks j =

@@ -153,8 +153,3 @@ pub record IsFree (p : Problem) (roles : Roles) (nodes : List Node) (k : ℕ) : 
 abbrev pub IsObstacle : Problem → Roles → List Node → Obstacle → Type 0
 IsObstacle p roles nodes (Free k) = IsFree p roles nodes k
 IsObstacle p roles nodes o = Obstructs p roles nodes o
-
--- one look is counted for each edge that was examined: all of them if the tree is free
-abbrev pub CountsLooks : Obstacle → ℕ → ℕ → ℕ → Type 0
-CountsLooks (Free k) count before after = after ≡ before + count
-CountsLooks o count before after = (before ≤ after) × (after ≤ before + count)

@@ -125,9 +125,8 @@ fn scan_by_bounds<S: Scope, R: MinusNodes, L: Ledger>(
         if least.fits_within(watch.bound_at(at)) {
             continue;
         }
-        looks.tick();
         let edge = watch.edges()[at];
-        let Some(look) = look_between(edge, scope, regions, roles) else {
+        let Some(look) = look_between(edge, scope, regions, roles, looks) else {
             watch.take_out(at);
             continue;
         };

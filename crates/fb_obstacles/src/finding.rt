@@ -5,59 +5,26 @@ ghost use Rattle.fb_graph.specs.Dual.{leaves};
 ghost use Rattle.fb_graph.specs.Covers.{AreRoles};
 ghost use Rattle.fb_laws.specs.Lengths.{HasPlus};
 ghost use Rattle.fb_obstacles.specs.InnerEdges.{LeavesInner};
-ghost use Rattle.fb_obstacles.specs.Obstacles.{BearsStep, CountsLooks, HavePlusParity, IsAtEdge, IsObstacle, IsWatched, ListsMinus, Obstructs, roles_by, slack_at};
+ghost use Rattle.fb_obstacles.specs.Obstacles.{BearsStep, HavePlusParity, IsAtEdge, IsObstacle, IsWatched, ListsMinus, Obstructs, roles_by, slack_at};
 ghost use Rattle.fb_obstacles.specs.Watched.{AreBounded};
 
 use crate::bounding::look_by_bounds;
 use crate::ends::keeps_dual;
-use crate::looking::{Look, look_over};
+use crate::looking::{Look, look_between};
 use crate::obstacle::Obstacle;
-use crate::scanning::look_at_edges;
-use crate::shrinking::{MinusNodes, look_at_minus};
+use crate::shrinking::MinusNodes;
 use crate::watching::Watch;
 use fb_graph::{Scope, Steps};
 use fb_regions::{Regions, Roles};
 use std::sync::ledger::Ledger;
 
-/// An obstacle in the way of the tree with these roles, or how far the tree may step. Takes no memory, and
-/// time for each minus node and each watched edge until it finds an obstacle. Counts a look for each edge that it
-/// examines.
+/// An obstacle in the way of the tree with these roles, or how far the tree may step. Takes no memory. Looks at each minus node,
+/// and at those watched edges whose bounds don't show that they bear the step, up to the first obstacle. Sets the bound of each
+/// edge that it looks at to what the edge bears in these roles, and counts a look for it. An edge that is found inside one
+/// outer node is watched no longer.
 ///
 /// The roles list the minus nodes, since a search for them would take time for each node at each step.
 pub fn next_obstacle<S: Scope, R: MinusNodes, L: Ledger>(
-    watch: &Watch,
-    scope: &S,
-    regions: &Regions<S>,
-    roles: &R,
-    looks: &mut Steps<L>,
-) -> Obstacle
-    requires same { regions.now.scope ≡ scope.now }
-    requires plus { HasPlus (roles_by (R.role_of roles.now)) regions.now.nodes }
-    requires roles { AreRoles (roles_by (R.role_of roles.now)) regions.now.nodes }
-    requires minus { ListsMinus (roles_by (R.role_of roles.now)) regions.now.nodes (R.minus_names roles.now) }
-    requires parity { HavePlusParity (roles_by (R.role_of roles.now)) regions.now.nodes }
-    requires even { HasNoOddClosed (with_defects (S.problem scope.now) (leaves regions.now.nodes)) }
-    requires watched { IsWatched (S.problem scope.now) (roles_by (R.role_of roles.now)) regions.now.nodes watch.now.edges }
-    ensures obstacle { IsObstacle (S.problem scope.now) (roles_by (R.role_of roles.now)) regions.now.nodes result }
-    ensures looks { CountsLooks result (length watch.now.edges) looks.old looks.new }
-{
-    keeps_dual(regions);
-    let shrinking = look_at_minus(regions, roles);
-    if let Look::Blocked(obstacle) = shrinking {
-        return obstacle;
-    }
-    match shrinking.and(look_at_edges(watch, scope, regions, roles, looks)) {
-        Look::Blocked(obstacle) => obstacle,
-        Look::Within(length) => Obstacle::Free(length),
-        Look::Clear => unreachable!(),
-    }
-}
-
-/// An obstacle in the way of the tree with these roles, or how far the tree may step, as `next_obstacle` finds it, but
-/// with a look only at those watched edges whose bounds don't show that they bear the step. Sets the bound of each edge
-/// that it looks at to what the edge bears in these roles, and counts a look for it. An edge that is found inside one outer node is watched
-/// no longer.
-pub fn next_obstacle_by_bounds<S: Scope, R: MinusNodes, L: Ledger>(
     watch: &mut Watch,
     scope: &S,
     regions: &Regions<S>,
@@ -107,8 +74,10 @@ pub fn obstacle_at<S: Scope, R: Roles, L: Ledger>(
 {
     keeps_dual(regions);
     scope.limits();
-    looks.tick();
-    match look_over(edge, scope, regions, roles) {
+    let Some(look) = look_between(edge, scope, regions, roles, looks) else {
+        return None;
+    };
+    match look {
         Look::Blocked(obstacle) => Some(obstacle),
         Look::Clear => None,
         Look::Within(_) => None,

@@ -10,14 +10,13 @@ pub mod finding;
 mod looking;
 pub mod obstacle;
 pub mod queue;
-mod scanning;
 pub mod shrinking;
 pub mod singles;
 pub mod watching;
 
 pub use entering::{free_end, watch_node, watch_taken};
 pub use fb_regions::{NodeId, Role, Roles};
-pub use finding::{next_obstacle, next_obstacle_by_bounds, obstacle_at};
+pub use finding::{next_obstacle, obstacle_at};
 pub use obstacle::Obstacle;
 pub use shrinking::MinusNodes;
 pub use singles::{

@@ -1,12 +1,13 @@
-ghost use Rattle.std.specs.Prelude.{◌≡◌, ◌<◌, ◌≤◌, length, MatchOption};
+ghost use Rattle.std.specs.Prelude.{◌≡◌, ◌+◌, ◌<◌, ◌≤◌, length, MatchOption};
 ghost use Rattle.fb_graph.specs.Dual.{AreUnderOne};
 ghost use Rattle.fb_graph.specs.Problem.{edge_at};
 ghost use Rattle.fb_obstacles.specs.InternalLooks.{bounded_look, both_looks, bound_by, edge_look, far_by, fits_within, look_at, look_if};
 
 use crate::ends::{Cover, Ends};
 use crate::obstacle::Obstacle;
-use fb_graph::Scope;
+use fb_graph::{Scope, Steps};
 use fb_regions::{Regions, Roles};
+use std::sync::ledger::Ledger;
 
 /// What an edge or a minus node allows of a step.
 #[derive(Clone, Copy)]
@@ -80,30 +81,22 @@ fn look_at(far: Cover, residue: u64, edge: u32) -> Look
     }
 }
 
-/// A look at one edge.
-pub fn look_over<S: Scope, R: Roles>(edge: u32, scope: &S, regions: &Regions<S>, roles: &R) -> Look
-    requires same { regions.now.scope ≡ scope.now }
-    requires below { edge < length (S.problem scope.now).edges }
-    ensures { result ≡ edge_look (S.problem scope.now) (R.role_of roles.now) regions.now.nodes edge }
-{
-    let ends = Ends::of(edge, regions);
-    let residue = ends.residue(scope.weight(edge));
-    look_with(edge, ends, residue, scope, roles)
-}
-
-/// A look at one edge; none if one outer node holds both its ends.
-pub fn look_between<S: Scope, R: Roles>(
+/// A look at one edge, which is counted; none if one outer node holds both its ends.
+pub fn look_between<S: Scope, R: Roles, L: Ledger>(
     edge: u32,
     scope: &S,
     regions: &Regions<S>,
     roles: &R,
+    looks: &mut Steps<L>,
 ) -> Option<Look>
     requires same { regions.now.scope ≡ scope.now }
     requires below { edge < length (S.problem scope.now).edges }
-    ensures { let e = edge_at (S.problem scope.now).edges edge in
+    ensures look { let e = edge_at (S.problem scope.now).edges edge in
         MatchOption result (AreUnderOne regions.now.nodes e.first e.second)
         (λ look. look ≡ edge_look (S.problem scope.now) (R.role_of roles.now) regions.now.nodes edge) }
+    ensures counted { looks.new ≡ looks.old + 1 }
 {
+    looks.tick();
     let ends = Ends::of(edge, regions);
     if ends.are_under_one() {
         return None;

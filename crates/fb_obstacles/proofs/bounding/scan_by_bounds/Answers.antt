@@ -34,7 +34,7 @@ pub loop-at-preserved-in_default-look_between : goal.loop-at-preserved-in_defaul
 loop-at-preserved-in_default-look_between g c = record {
   scanned = scanned_left _ _ _ _ _ c.requires.seen _ _ _ _ _ _ c.loop-at.invariant.scanned c.in-Some.ensures.next
       (ap (λ xs. get_or xs c.in-Some.at 0) c.edges.ensures) c.take_out.new.self c.keeps-in-Some.ensures.distinct
-      c.keeps-in-Some.ensures.bounds c.in_default-look_between.ensures c.take_out.ensures;
+      c.keeps-in-Some.ensures.bounds c.in_default-look_between.ensures.look c.take_out.ensures;
   never_falls = omega (arith, c.loop-at.invariant.never_falls);
   counted = omega (arith, c.loop-at.invariant.counted, c.in-Some.ensures.next.before);
 }
@@ -46,7 +46,7 @@ returns-in-Blocked-least-clause-scanned g c =
     (scanned_more _ _ _ _ _ c.requires.seen _ _ _ _ _ _ c.loop-at.invariant.scanned c.in-Some.ensures.next
     (ap (λ xs. get_or xs c.in-Some.at 0) c.edges.ensures) c.with_look-least.new.watch
     (get_or c.set_bound.new.self.bounds c.in-Some.at 0) c.bound.result c.in-Some-look_between.look c.with_look-least.result
-    c.in-Some-look_between.ensures c.bound.ensures c.set_bound.ensures.most
+    c.in-Some-look_between.ensures.look c.bound.ensures c.set_bound.ensures.most
     (c.with_look-least.ensures.same ∙ c.set_bound.ensures.rest) c.with_look-least.ensures.both)
 
 pub loop-at-preserved : goal.loop-at-preserved
@@ -54,7 +54,7 @@ loop-at-preserved g c = record {
   scanned = scanned_more _ _ _ _ _ c.requires.seen _ _ _ _ _ _ c.loop-at.invariant.scanned c.in-Some.ensures.next
       (ap (λ xs. get_or xs c.in-Some.at 0) c.edges.ensures) c.with_look-least.new.watch
       (get_or c.set_bound.new.self.bounds c.in-Some.at 0) c.bound.result c.in-Some-look_between.look c.with_look-least.result
-      c.in-Some-look_between.ensures c.bound.ensures c.set_bound.ensures.most
+      c.in-Some-look_between.ensures.look c.bound.ensures c.set_bound.ensures.most
       (c.with_look-least.ensures.same ∙ c.set_bound.ensures.rest) c.with_look-least.ensures.both;
   never_falls = omega (arith, c.loop-at.invariant.never_falls);
   counted = omega (arith, c.loop-at.invariant.counted, c.in-Some.ensures.next.before);
