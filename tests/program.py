@@ -8,7 +8,7 @@ from pathlib import Path
 
 ROOT = Path(__file__).resolve().parent.parent
 FUSION = Path(os.environ.get("FUSION") or ROOT / "crates/fusion/out/fusion").resolve()
-SECONDS = 600
+SECONDS = 120
 
 Answer = namedtuple("Answer", "stdout stderr status")
 

@@ -11,7 +11,7 @@ use crate::roles::TreeRoles;
 use crate::searching::Searching;
 use fb_graph::{NoMemory, Steps};
 use fb_half::Standing;
-use fb_obstacles::{Obstacle, next_obstacle_by_bounds, obstacle_at};
+use fb_obstacles::{Obstacle, next_obstacle, obstacle_at};
 use fb_regions::NodeId;
 use std::alloc::Global;
 use std::sync::ledger::Ledger;
@@ -48,7 +48,7 @@ impl<'a> Searching<'a> {
         let Searching { parts, tree, watch } = self;
         let scope = *parts.regions.scope();
         let roles = TreeRoles { tree };
-        next_obstacle_by_bounds(watch, &scope, &parts.regions, &roles, looks)
+        next_obstacle(watch, &scope, &parts.regions, &roles, looks)
     }
 
     /// The obstacle at the edge that limited the last step, if one is there now.

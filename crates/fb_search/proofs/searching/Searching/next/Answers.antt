@@ -4,8 +4,8 @@ use Rattle.fb_search.specs.InternalSearching.{SearchValue}
 use Rattle.fb_search.proofs.NextObstacles.{next_bounded, next_even, next_is, next_minus, next_parity, next_plus, next_roles, next_watched, searching_rewatched}
 use Rattle.fb_search.proofs.searching.Searching.next.Goals as goal
 
-pub next_obstacle_by_bounds-requires : goal.next_obstacle_by_bounds-requires
-next_obstacle_by_bounds-requires g c =
+pub next_obstacle-requires : goal.next_obstacle-requires
+next_obstacle-requires g c =
     let w : SearchValue = record { part = part_of c.self.inside.parts; tree = c.self.inside.tree; watched = c.self.inside.watch } in
     let scope = c.self.invariant.0 in
     let graph = ap (λ s. s.graph.now) c.scope.ensures ∙ scope.graph in
@@ -28,8 +28,8 @@ returns-clause-obstacle g c =
     let scope = c.self.invariant.0 in
     next_is w c.self.invariant.1 c.scope.result.now.graph.now c.scope.result.now.plan.now c.scope.result.now.node
     (ap (λ s. s.graph.now) c.scope.ensures ∙ scope.graph) (ap (λ s. s.plan.now) c.scope.ensures ∙ scope.plan)
-    (ap (λ s. s.node) c.scope.ensures ∙ scope.node) c.next_obstacle_by_bounds.result
-    c.next_obstacle_by_bounds.ensures.obstacle
+    (ap (λ s. s.node) c.scope.ensures ∙ scope.node) c.next_obstacle.result
+    c.next_obstacle.ensures.obstacle
 
 pub invariant_of-self : goal.invariant_of-self
 invariant_of-self g c =
@@ -38,7 +38,7 @@ invariant_of-self g c =
       scope,
       searching_rewatched w c.self.invariant.1 c.scope.result.now.graph.now c.scope.result.now.plan.now c.scope.result.now.node
           (ap (λ s. s.graph.now) c.scope.ensures ∙ scope.graph) (ap (λ s. s.plan.now) c.scope.ensures ∙ scope.plan)
-          (ap (λ s. s.node) c.scope.ensures ∙ scope.node) c.next_obstacle_by_bounds.new.watch
-          c.next_obstacle_by_bounds.ensures.left.room
-          c.next_obstacle_by_bounds.ensures.watched c.next_obstacle_by_bounds.ensures.bounded,
+          (ap (λ s. s.node) c.scope.ensures ∙ scope.node) c.next_obstacle.new.watch
+          c.next_obstacle.ensures.left.room
+          c.next_obstacle.ensures.watched c.next_obstacle.ensures.bounded,
     )
