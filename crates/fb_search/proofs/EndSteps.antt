@@ -1,9 +1,10 @@
 -- Matches added and links forgotten, one after another, where a search ends.
-use Rattle.std.proofs.Common.{ℕ, zero, suc, ◌≡◌, ◌==◌, ◌<◌, ◌⊎◌, inl, inr, cond, true, false, All, List, [], ◌∷◌, ◌++◌, length, take, get_or, Option, None, is_some, refl, sym, ap, subst, ◌∙◌, append_assoc, arith}
+use Rattle.std.proofs.Common.{ℕ, zero, suc, ◌≡◌, ◌==◌, ◌<◌, ◌⊎◌, inl, inr, cond, true, false, All, List, [], ◌∷◌, ◌++◌, length, take, get_or, Option, None, is_some, refl, sym, ap, subst, ◌∙◌, append-nil, append_assoc, arith}
 use Rattle.std.proofs.lemmas.Bool.{false_from_ne_true, false≢true, ne_eqb, or_from}
 use Rattle.std.proofs.lemmas.Grind.{flat_map-append}
 use Rattle.fb_graph.specs.Parity.{is_in}
 use Rattle.fb_graph.specs.Certificate.{AreDistinct}
+use Rattle.fb_graph.proofs.Members.{distinct_left}
 use Rattle.fb_graph.proofs.Sets.{is_in_at}
 use Rattle.fb_laws.proofs.MergedParts.{distinct_across}
 use Rattle.fb_links.specs.declared.walk.Step.{Step}
@@ -57,3 +58,30 @@ fresh_listed m ms i d k e distinct lt below =
     ap (λ l. is_in (m.unmatched ++ l) n) (flat_map-append names_of m.matches (take i ms))
     ∙ ap (λ l. is_in l n) (sym (append_assoc m.unmatched (matched_names m.matches) (matched_names (take i ms))))
     ∙ fresh (listed_names m) ms i d distinct lt n (is_in_at (names_of (get_or ms i d)) k e below)
+
+-- the names with those of a last match
+whole : (m : MatchingValue) (ms : List Match) (out : Match)
+    → AreDistinct (listed_names m ++ matched_names (ms ++ out ∷ []))
+    → AreDistinct ((listed_names m ++ matched_names ms) ++ names_of out)
+whole m ms out distinct =
+    subst AreDistinct
+    (ap (λ l. listed_names m ++ l) (flat_map-append names_of ms (out ∷ []) ∙ ap (λ l. matched_names ms ++ l) (append-nil (names_of out)))
+    ∙ sym (append_assoc (listed_names m) (matched_names ms) (names_of out))) distinct
+
+-- a last match after others: the others are of distinct nodes, and its names are not yet listed
+pub distinct_before : (m : MatchingValue) (ms : List Match) (out : Match)
+    → AreDistinct (listed_names m ++ matched_names (ms ++ out ∷ [])) → AreDistinct (listed_names m ++ matched_names ms)
+distinct_before m ms out distinct =
+    distinct_left (listed_names m ++ matched_names ms) (names_of out) (whole m ms out distinct)
+
+pub fresh_last : (m : MatchingValue) (ms : List Match) (out : Match)
+    → AreDistinct (listed_names m ++ matched_names (ms ++ out ∷ []))
+    → All (λ n. is_in (listed_names (record { matches = m.matches ++ ms; unmatched = m.unmatched })) n ≡ false) (names_of out)
+fresh_last m ms out distinct k e below =
+    let n = get_or (names_of out) k e in
+    ap (λ l. is_in (m.unmatched ++ l) n) (flat_map-append names_of m.matches ms)
+    ∙ ap (λ l. is_in l n) (sym (append_assoc m.unmatched (matched_names m.matches) (matched_names ms)))
+    ∙ false_from_ne_true (is_in (listed_names m ++ matched_names ms) n)
+    (λ there.
+    false≢true (sym (distinct_across (listed_names m ++ matched_names ms) (names_of out) n (whole m ms out distinct) there)
+    ∙ is_in_at (names_of out) k e below))

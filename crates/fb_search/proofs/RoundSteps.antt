@@ -119,23 +119,28 @@ rounds_on before now after roots left more start old new was is = record {
   few = omega (arith, was.few, is.few);
 }
 
--- and a round that leaves none
-pub each_searched : (before now after : PartValue) (roots left from rest : List ℕ) (start old new : ℕ)
-    → HasSearchedSome before roots start old left now → from ≡ left → rest ≡ [] → HasSearchedSome now from old new rest after
-    → HasSearchedEach before roots start new after
-each_searched before now after roots left from rest start old new was same none is =
-    let all : HasSearchedSome before roots start new [] after =
-    subst (λ l. HasSearchedSome before roots start new l after) none
-    (rounds_on before now after roots left rest start old new was
-    (subst (λ l. HasSearchedSome now l old new rest after) same is)) in
+-- a round that leaves none
+pub once_searched : (before after : PartValue) (roots rest : List ℕ) (old new : ℕ) → rest ≡ []
+    → HasSearchedSome before roots old new rest after → HasSearchedEach before roots old new after
+once_searched before after roots rest old new none is =
+    let all : HasSearchedSome before roots old new [] after = subst (λ l. HasSearchedSome before roots old new l after) none is in
     record {
       part = all.part;
-      matched = λ n there. let old = all.others n there refl in (old.0, old.1);
+      matched = λ n there. let was = all.others n there refl in (was.0, was.1);
       kept = λ n there. (all.others n there refl).2;
       steps = all.steps;
       each = all.each;
       few = omega (arith, all.few);
     }
+
+-- and one after others
+pub each_searched : (before now after : PartValue) (roots left from rest : List ℕ) (start old new : ℕ)
+    → HasSearchedSome before roots start old left now → from ≡ left → rest ≡ [] → HasSearchedSome now from old new rest after
+    → HasSearchedEach before roots start new after
+each_searched before now after roots left from rest start old new was same none is =
+    once_searched before after roots rest start new none
+    (rounds_on before now after roots left rest start old new was
+    (subst (λ l. HasSearchedSome now l old new rest after) same is))
 
 -- the watch has room for the edges still
 pub room_after : (before after : PartValue) (roots left : List ℕ) (old new count room : ℕ)

@@ -127,9 +127,9 @@ pub(crate) fn match_tree(
     requires distinct { AreDistinct (listed_names matching.old ++ matched_names (ended_matches tree.now.branches out.first ++ out ∷ [])) }
     ensures { OnOk result (matching.new ≡ record { matches = all_matches matching.old.matches tree.now.branches out.first out; unmatched = matching.old.unmatched }) }
 {
-    let mut matches = matches_at_end(alloc, tree, out.first)?;
-    matches.push(out)?;
-    add_matches(alloc, matching, &matches)
+    let matches = matches_at_end(alloc, tree, out.first)?;
+    add_matches(alloc, matching, &matches)?;
+    matching.add_match(alloc, out)
 }
 
 /// Removes the links of the tree that match no node when a search ends at the plus node.

@@ -62,8 +62,8 @@ pub fn search_from<'a, L: Ledger>(
     Ok((bounded.work, bounded.scratch.with_matched(matched)))
 }
 
-/// Searches from the nodes that are still unmatched when their turn comes, in rounds. Trees are kept small in the first
-/// rounds, so that close nodes are matched first. Counts a step for each search that matches its root: at most one for
+/// Searches from the nodes that are still unmatched when their turn comes, in rounds if there are more than one. Trees are
+/// kept small in the first rounds, so that close nodes are matched first. Counts a step for each search that matches its root: at most one for
 /// each of the nodes and for each node that is no longer unmatched, and at least one for every two nodes that are no
 /// longer unmatched.
 pub fn search_each<'a, L: Ledger>(
@@ -95,6 +95,10 @@ pub fn search_each_from<'a, L: Ledger>(
 {
     if roots.is_empty() {
         return Ok((work, scratch));
+    }
+    if roots.len() == 1 {
+        let once = search_round(alloc, work, roots, None, scratch, steps)?;
+        return Ok((once.work, once.scratch));
     }
     let Round {
         work,
