@@ -15,6 +15,9 @@ use indexmap::IndexMap;
 use std::alloc::Global;
 use std::marker::Model;
 
+/// The most edges that don't wait in the queue: to pass over the bounds of so few costs no more than the queue.
+const FEW: usize = 32;
+
 /// The edges that were watched since the watch was emptied, with the bound of each.
 type Known = IndexMap<u32, u64, EdgeHasher>;
 
@@ -279,11 +282,15 @@ impl Watch {
         }
     }
 
-    /// Puts into the queue, as far as it has room, the edges from this place on that don't wait there and may not be tight.
-    /// Where entries that are no edge's due time outnumber the edges, the queue is built anew.
+    /// Puts into the queue, as far as it has room, the edges from this place on that don't wait there and may not be tight,
+    /// if more than a few edges are watched. Where entries that are no edge's due time outnumber the edges, the queue is
+    /// built anew.
     pub(crate) fn requeue(&mut self, from: usize)
         ensures { Reorders self.old self.new }
     {
+        if self.live <= FEW {
+            return;
+        }
         let from = self.without_stale(from);
         self.queue_from(from);
     }
