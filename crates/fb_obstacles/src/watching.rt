@@ -288,18 +288,18 @@ impl Watch {
     pub(crate) fn requeue(&mut self, from: usize)
         ensures { Reorders self.old self.new }
     {
-        if self.live <= FEW {
-            return;
-        }
-        let from = self.without_stale(from);
+        let from = self.queued_from(from);
         self.queue_from(from);
     }
 
-    /// Empties the queue if entries that are no edge's due time outnumber the edges. Returns the place from which on edges are
-    /// to be put into it: the first one then, or else the place that was given.
-    fn without_stale(&mut self, from: usize) -> usize
+    /// The place from which on edges are to be put into the queue: behind all where few are watched; the first one where
+    /// entries that are no edge's due time outnumber the edges, after the queue was emptied; or else the place that is given.
+    fn queued_from(&mut self, from: usize) -> usize
         ensures { Reorders self.old self.new }
     {
+        if self.live <= FEW {
+            return self.live;
+        }
         if self.queue.len() / 2 <= self.live {
             return from;
         }

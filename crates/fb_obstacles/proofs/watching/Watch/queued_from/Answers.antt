@@ -1,5 +1,5 @@
 use Rattle.std.proofs.Common.{refl}
-use Rattle.fb_obstacles.proofs.watching.Watch.without_stale.Goals as goal
+use Rattle.fb_obstacles.proofs.watching.Watch.queued_from.Goals as goal
 
 pub returns : goal.returns
 returns c =
