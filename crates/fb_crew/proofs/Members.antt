@@ -4,14 +4,15 @@ use Rattle.std.specs.List.{All}
 use Rattle.std.specs.Prelude.{Result, Ok, Err, IfOk, MatchResult}
 use Rattle.std.proofs.lemmas.List.Elements.{All-append, All-cons, All-head, All-nil}
 use Rattle.atomic_table.specs.Seated.{TableId}
+use Rattle.fb_graph.proofs.Nodes.{All-below, All-top}
 use Rattle.fb_book.specs.declared.entries.Entry.{Entry}
 use Rattle.fb_slots.specs.Seats.{SeatValue, ends_in, entries_in}
-use Rattle.fb_slots.proofs.Gathering.{all_front, all_last, entries_last}
+use Rattle.fb_slots.proofs.Gathering.{entries_last}
 use Rattle.fb_crew.specs.InternalSeats.{IsEnded}
 
 module _ {S : Type 0} (P : S → Type 0) where
   pub popped : (old new : List S) (x : S) → old ≡ new ++ x ∷ [] → All P old → All P new × P x
-  popped old new x is all = let h = subst (All P) is all in (all_front P new x h, all_last P new x h)
+  popped old new x is all = let h = subst (All P) is all in (All-below P new x h, All-top P new x h)
 
   pub pushed : (old new : List S) (x : S) → new ≡ old ++ x ∷ [] → All P old → P x → All P new
   pushed old new x is all here = subst (All P) (sym is) (All-append P old (x ∷ []) all (All-cons P x [] here (All-nil P)))
