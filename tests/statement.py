@@ -49,7 +49,7 @@ def declaration(crate, file, name):
             above = first
             while lines[above - 1].startswith(("///", "#[")):
                 above -= 1
-            return "\n".join(it for it in lines[above : last + 1] if not it.startswith("#["))
+            return "\n".join(it for it in lines[above : last + 1] if not it.strip().startswith("#["))
     return None
 
 
