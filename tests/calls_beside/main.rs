@@ -1,28 +1,55 @@
 //! Calls that no run of the program makes, on samples whose answers are known: of links, blossoms, trees, parts, boards,
-//! workers, windows, plans by layers, and files and sinks in memory. It prints what differs, and how many samples passed.
+//! workers, windows, plans by layers, and files and sinks in memory. Then random moves on a dual state, beside a plain one.
+//!
+//! Its arguments are a seed, the number of rounds, and that of the moves on each part of a graph. It prints what differs,
+//! and how many samples and comparisons passed.
 
 #![tactic(auto)]
 
+mod asking;
 mod board;
 mod branches;
+mod choosing;
+mod closed;
+mod comparing;
 mod desks;
+mod draws;
+mod first_search;
+mod game;
 mod layers;
 mod lines;
+mod moves;
 mod nests;
+mod obstacles;
 mod parts;
+mod plain;
+mod playing;
+mod readings;
+mod roles;
+mod rounds;
+mod shapes;
 mod sinks;
 mod slots;
-mod streams;
 mod stopped;
+mod streams;
 mod walks;
+mod watching;
 mod windows;
 mod workers;
 
-use std::io;
+use playing::play;
+use std::{env, io};
 use stopped::Stopped;
 
 fn main(rt: HostRuntime) -> io::Result<()> {
     let alloc = rt.alloc();
+    let words: Vec<String> = env::args(&rt)?.collect(alloc)?;
+    let [_, seed, rounds, moves] = words.as_slice() else {
+        return println!(rt; "usage: calls_beside SEED ROUNDS MOVES");
+    };
+    let (Ok(seed), Ok(rounds), Ok(moves)) = (seed.parse(), rounds.parse(), moves.parse()) else {
+        return println!(rt; "usage: calls_beside SEED ROUNDS MOVES");
+    };
     let answers = [
         ("walks are copied", walks::are_copied(alloc)),
         ("outer nodes are found", nests::finds_outer_nodes(alloc)),
@@ -58,7 +85,7 @@ fn main(rt: HostRuntime) -> io::Result<()> {
         ("more units want more layers", layers::are_too_few(alloc)),
         ("a plan by layers has its text", layers::make_texts(alloc)),
     ];
-    let (mut passed, mut failed) = (0, 0);
+    let (mut passed, mut failed) = play(&rt, alloc, seed, rounds, moves)?;
     for (name, answer) in answers {
         match answer {
             Ok(()) => passed += 1,

@@ -3,12 +3,14 @@ use fb_plan::PlanFault;
 use std::alloc::{AllocError, AllocFailed};
 use std::fmt;
 
-/// Why a sample did not pass.
-#[derive(Clone, Copy, Debug)]
+/// Why a sample did not pass, or a game ended before its last move.
+#[derive(Debug, Drop)]
 pub enum Stopped {
     /// This was another than it should be.
     Differs(&'static str),
-    NoGraph,
+    /// The same, with what was found and what was expected.
+    Differ(String),
+    NoGraph(GraphFault),
     NoPlan,
     NoMemory,
 }
@@ -39,8 +41,8 @@ impl From<PlanFault> for Stopped {
 }
 
 impl From<GraphFault> for Stopped {
-    fn from(_: GraphFault) -> Stopped {
-        Stopped::NoGraph
+    fn from(fault: GraphFault) -> Stopped {
+        Stopped::NoGraph(fault)
     }
 }
 
@@ -48,7 +50,8 @@ impl fmt::Display for Stopped {
     fn fmt<W: fmt::Write>(&self, f: &mut fmt::Formatter<W>) -> fmt::Result {
         match self {
             Stopped::Differs(what) => write!(f, "{what} differs"),
-            Stopped::NoGraph => write!(f, "no graph"),
+            Stopped::Differ(text) => write!(f, "{text}"),
+            Stopped::NoGraph(fault) => write!(f, "no graph: {fault}"),
             Stopped::NoPlan => write!(f, "no plan"),
             Stopped::NoMemory => write!(f, "out of memory"),
         }

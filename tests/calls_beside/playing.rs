@@ -1,45 +1,18 @@
-//! Makes random moves on a dual state of `fb_regions` and on a plain one beside it, and compares every observation. After
-//! some moves it asks `fb_obstacles` what is in the way of random trees, and compares the answers with a plain scan. Before
+//! Random moves on a dual state of `fb_regions` and on a plain one beside it, whose observations are all compared. After some
+//! moves `fb_obstacles` is asked what is in the way of random trees, and the answers are compared with a plain scan. Before
 //! them comes one search whose edges are known.
-//!
-//! Its arguments are a seed, the number of rounds, and that of the moves on each part of a graph. It prints what differs,
-//! how many moves and answers of each kind there were, and how many comparisons passed.
 
-#![tactic(auto)]
+use crate::asking::KINDS;
+use crate::first_search::play_first_search;
+use crate::moves::Kind;
+use crate::rounds::Player;
+use crate::shapes::SHAPES;
+use std::alloc::Global;
+use std::io;
 
-mod asking;
-mod choosing;
-mod closed;
-mod comparing;
-mod draws;
-mod first_search;
-mod game;
-mod moves;
-mod obstacles;
-mod plain;
-mod readings;
-mod roles;
-mod rounds;
-mod shapes;
-mod stopped;
-mod watching;
-
-use asking::KINDS;
-use first_search::play_first_search;
-use moves::Kind;
-use rounds::Player;
-use shapes::SHAPES;
-use std::{env, io};
-
-fn main(rt: HostRuntime) -> io::Result<()> {
-    let alloc = rt.alloc();
-    let words: Vec<String> = env::args(&rt)?.collect(alloc)?;
-    let [_, seed, rounds, moves] = words.as_slice() else {
-        return println!(rt; "usage: regions_beside SEED ROUNDS MOVES");
-    };
-    let (Ok(seed), Ok(rounds), Ok(moves)) = (seed.parse(), rounds.parse(), moves.parse()) else {
-        return println!(rt; "usage: regions_beside SEED ROUNDS MOVES");
-    };
+/// Plays some rounds on each shape of graph, with so many moves on each part of it. Prints what differs, and how many moves and
+/// answers of each kind there were; returns how many comparisons passed and failed.
+pub fn play(rt: &impl Print, alloc: Global, seed: u64, rounds: u64, moves: u64) -> io::Result<(u64, u64)> {
     let mut player = Player::new(alloc, seed);
     let mut failed = 0;
     if let Err(stopped) = play_first_search(alloc, &mut player.asker) {
@@ -54,9 +27,8 @@ fn main(rt: HostRuntime) -> io::Result<()> {
             }
         }
     }
-    print_counts(&rt, &player)?;
-    let passed = player.passed + player.asker.passed();
-    println!(rt; "{passed} passed, {failed} failed")
+    print_counts(rt, &player)?;
+    Ok((player.passed + player.asker.passed(), failed))
 }
 
 /// Prints how often each kind of move, a used name and a deep nest came up.
