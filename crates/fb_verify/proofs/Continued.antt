@@ -11,8 +11,8 @@ use Rattle.fb_graph.specs.declared.parts.Row.TheVariants as row
 use Rattle.fb_report.specs.Texts as texts
 use Rattle.fb_report.specs.Texts.{line, head_text, row_text, done_text}
 use Rattle.fb_verify.specs.declared.reports.Totals.{Totals}
-use Rattle.fb_verify.specs.declared.walking.Place.{Place}
-use Rattle.fb_verify.specs.declared.walking.Place.TheVariants as place
+use Rattle.fb_verify.specs.Places.{Place}
+use Rattle.fb_verify.specs.Places as place
 use Rattle.fb_verify.specs.Reports.{is_odd, has_none}
 use Rattle.fb_verify.specs.ReadBack.{Event, TracedRow, event_text, traced_text, rows_of, report_text, IsCutInRange, IsRowInRange, IsEventInRange, IsInRange, IsReportInRange}
 use Rattle.fb_verify.specs.Readings.{IsReport, BeginsReport}

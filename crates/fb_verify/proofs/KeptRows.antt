@@ -14,9 +14,9 @@ use Rattle.fb_verify.specs.declared.report_faults.ReportFault.{ReportFault}
 use Rattle.fb_verify.specs.declared.reports.Report.{Report}
 use Rattle.fb_verify.specs.declared.lines.Line.{Line}
 use Rattle.fb_verify.specs.declared.lines.Line.TheVariants as line
-use Rattle.fb_verify.specs.declared.walking.Place.{Place}
-use Rattle.fb_verify.specs.declared.walking.Place.TheVariants as place
-use Rattle.fb_verify.specs.declared.walking.Reading.{Reading}
+use Rattle.fb_verify.specs.Places.{Place}
+use Rattle.fb_verify.specs.Places as place
+use Rattle.fb_verify.specs.Places.{Reading}
 use Rattle.fb_verify.specs.declared.report_faults.ReportFault.TheVariants.{BadLine, WrongShot}
 use Rattle.fb_graph.specs.declared.parts.Cut.{Cut}
 use Rattle.fb_verify.specs.Reports.{words_of, is_odd, has_none, first_number, after_word, all_numbers, with_number, with_word, at_end, row_kind, cut_of, head_line, shot_line, edges_line, weight_line, cut_line, trace_line, done_line, line_of, reading, as_next, at_row_end, step, with_line, ending, go_on, read_from, most_bytes, report_of_text}

@@ -1,6 +1,7 @@
 pub mod Adding
 pub mod Certified
 pub mod Continued
+pub mod Gathers
 pub mod Goods
 pub mod KeptRows
 pub mod Leasts
@@ -14,3 +15,4 @@ pub mod PrintedWords
 pub mod ReadRows
 pub mod ReadWords
 pub mod Sharing
+pub mod Walks

@@ -3,7 +3,7 @@ use Rattle.std.proofs.Common.{◌≡◌, ℕ, ◌+◌, List, ◌∷◌, Result, 
 use Rattle.std.specs.List.{slice_split}
 use Rattle.fb_verify.specs.declared.report_faults.ReportFault.{ReportFault}
 use Rattle.fb_verify.specs.declared.reports.Report.{Report}
-use Rattle.fb_verify.specs.declared.walking.Reading.{Reading}
+use Rattle.fb_verify.specs.Places.{Reading}
 use Rattle.fb_verify.specs.Reports.{words_of, line_of, with_line, go_on, read_from}
 use Rattle.fb_verify.proofs.Parts.{some_part}
 

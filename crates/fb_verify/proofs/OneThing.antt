@@ -16,9 +16,9 @@ use Rattle.fb_verify.specs.declared.report_faults.ReportFault.TheVariants.{BadLi
 use Rattle.fb_verify.specs.declared.reports.Totals.{Totals}
 use Rattle.fb_verify.specs.declared.lines.Line.{Line}
 use Rattle.fb_verify.specs.declared.lines.Line.TheVariants as line
-use Rattle.fb_verify.specs.declared.walking.Place.{Place}
-use Rattle.fb_verify.specs.declared.walking.Place.TheVariants as place
-use Rattle.fb_verify.specs.declared.walking.Reading.{Reading}
+use Rattle.fb_verify.specs.Places.{Place}
+use Rattle.fb_verify.specs.Places as place
+use Rattle.fb_verify.specs.Places.{Reading}
 use Rattle.fb_verify.specs.Reports.{words_of, is_odd, has_none, line_of, reading, as_next, at_row_end, step, with_line, ending, go_on, read_from, report_in}
 use Rattle.fb_verify.specs.ReadBack.{TracedRow, traced_text, rows_of, report_with, IsCutInRange, IsInRange}
 use Rattle.fb_verify.specs.Readings.{IsReport, BeginsReport, newlines, AreLines, IsLine, BeginsRow, IsOutOfTurn, IsNoContinuation, IsCutShort, IsReadingOf, ReadsAsIs, IsOneThing}

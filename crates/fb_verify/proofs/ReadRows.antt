@@ -14,8 +14,8 @@ use Rattle.fb_report.specs.Texts.{line, head_text, row_text, rows_text, done_tex
 use Rattle.fb_verify.specs.declared.reports.Totals.{Totals}
 use Rattle.fb_verify.specs.declared.lines.Line.{Line}
 use Rattle.fb_verify.specs.declared.lines.Line.TheVariants as line
-use Rattle.fb_verify.specs.declared.walking.Place.TheVariants as place
-use Rattle.fb_verify.specs.declared.walking.Reading.{Reading}
+use Rattle.fb_verify.specs.Places as place
+use Rattle.fb_verify.specs.Places.{Reading}
 use Rattle.fb_verify.specs.Reports.{is_odd, has_none, with_number, at_end, trace_line, row_kind, cut_of, head_line, shot_line, edges_line, weight_line, cut_line, done_line, line_of, reading, as_next, at_row_end, step, with_line, read_from, report_in}
 use Rattle.fb_verify.specs.ReadBack.{Event, TracedRow, event_text, traced_text, rows_of, report_text, plain_text, report_with, IsCutInRange, IsRowInRange, IsEventInRange, IsInRange, ReadsBack, PlainReadsBack}
 use Rattle.fb_verify.proofs.LineAfterLine.{read_taken}

@@ -8,3 +8,8 @@ pub mod Reports
 pub mod VerdictTexts
 pub mod Verdicts
 pub mod InternalWordsLeft
+pub mod Places
+pub mod Positions
+pub mod ReportLines
+pub mod InternalWalks
+pub mod InternalGathers

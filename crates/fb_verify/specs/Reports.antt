@@ -12,9 +12,9 @@ use Rattle.fb_verify.specs.declared.report_faults.ReportFault.TheVariants.{BadLi
 use Rattle.fb_verify.specs.declared.reports.Report.{Report}
 use Rattle.fb_verify.specs.declared.lines.Line.{Line}
 use Rattle.fb_verify.specs.declared.lines.Line.TheVariants as line
-use Rattle.fb_verify.specs.declared.walking.Place.{Place}
-use Rattle.fb_verify.specs.declared.walking.Place.TheVariants as place
-use Rattle.fb_verify.specs.declared.walking.Reading.{Reading}
+use Rattle.fb_verify.specs.Places.{Place}
+use Rattle.fb_verify.specs.Places as place
+use Rattle.fb_verify.specs.Places.{Reading}
 
 -- ---- words
 

@@ -2,7 +2,7 @@
 
 ghost use Rattle.std.specs.Prelude.{◌≡◌};
 ghost use Rattle.fb_verify.specs.Reports.{most_bytes};
-ghost use Rattle.fb_verify.specs.declared.report_text.TheConstants.{MOST_REPORT_BYTES};
+ghost use Rattle.fb_verify.specs.declared.report_lines.TheConstants.{MOST_REPORT_BYTES};
 ghost use Rattle.fb_verify.specs.ReadBack.{ReadsBack, PlainReadsBack};
 ghost use Rattle.fb_verify.specs.Readings.{ReadsAsIs, IsOneThing};
 

@@ -5,15 +5,11 @@ ghost use Rattle.fb_verify.specs.Reports.{report_of_text};
 ghost use Rattle.fb_verify.specs.Verdicts.{HasPositiveValues};
 ghost use Rattle.fb_verify.specs.declared.report_faults.ReportFault.TheVariants.{NoMemory};
 
-use crate::lines::read_line;
+use crate::gathering::Gathered;
 use crate::report_faults::ReportFault;
+use crate::report_lines::{NextLine, ReportLines};
 use crate::reports::Report;
-use crate::splitting::split_once;
-use crate::walking::Reading;
 use std::alloc::Global;
-
-/// The most bytes that a report may have.
-pub const MOST_REPORT_BYTES: usize = 1 << 30;
 
 /// The report that a text is, whoever made it, or the first line that fails. It takes time and memory by the text's
 /// length.
@@ -27,27 +23,26 @@ pub fn read_report(alloc: Global, bytes: &[u8]) -> Result<Report, ReportFault>
 }
 
 /// The report alone.
-#[tactic(auto, unfolding(crate::specs::Reports::report_of_text))]
 fn read_text(alloc: Global, bytes: &[u8]) -> Result<Report, ReportFault>
     ensures ok { IfOk result (λ r. report_of_text bytes.now ≡ Ok r) }
     ensures err { IfErr result (λ e. e ≢ NoMemory → report_of_text bytes.now ≡ Err e) }
 {
-    if bytes.len() > MOST_REPORT_BYTES {
-        return Err(ReportFault::TooLong);
-    }
-    let mut reading = Reading::new(alloc);
-    let mut number: u64 = 1;
-    let mut rest = bytes;
-    while let Some((text, more)) = split_once(rest, b'\n') {
-        let Ok(said) = read_line(alloc, text) else {
-            return Err(ReportFault::NoMemory);
-        };
-        reading = match reading.take(alloc, number, said) {
-            Ok(next) => next,
+    let mut lines = match ReportLines::new(bytes) {
+        Ok(lines) => lines,
+        Err(fault) => return Err(fault),
+    };
+    let mut gathered = Gathered::new(alloc);
+    loop {
+        match lines.next(alloc) {
+            Ok(NextLine::Line(said, more)) => {
+                gathered = gathered.add(alloc, said)?;
+                lines = more;
+            }
+            Ok(NextLine::Done(totals)) => {
+                let rows = gathered.rows;
+                return Ok(Report { rows, totals });
+            }
             Err(fault) => return Err(fault),
-        };
-        number += 1;
-        rest = more;
+        }
     }
-    reading.end(number, rest)
 }

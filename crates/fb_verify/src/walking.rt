@@ -1,257 +1,126 @@
-//! A reading of a report, line after line.
+//! Which line may follow which in a report.
 
-ghost use Rattle.std.specs.Prelude.{◌≡◌, ◌≢◌, ◌==◌, ◌&&◌, ◌∷◌, ◌++◌, [], Ok, Err, IfOk, IfErr, length, count_by};
-ghost use Rattle.fb_verify.specs.Reports.{is_odd, at_row_end, step, with_line, ending, reading};
-ghost use Rattle.fb_verify.specs.declared.report_faults.ReportFault.TheVariants.{NoMemory};
+ghost use Rattle.std.specs.Prelude.{◌≡◌, ◌≤◌, ◌==◌, ◌&&◌, IfOk};
+ghost use Rattle.fb_verify.specs.InternalWalks.{walk, walk_on, walk_on_from_rows, walk_end};
 
 use crate::lines::Line;
 use crate::report_faults::ReportFault;
-use crate::reports::{Report, RowList, Totals};
-use fb_graph::{Cut, CutList, NumberList, Row};
-use std::alloc::Global;
+use crate::reports::Totals;
 
-/// Where in a report the next line is.
-#[derive(Drop)]
-pub enum Place {
+/// What the next line of a report follows.
+#[derive(Clone, Copy)]
+pub enum Stage {
     /// It is the first line.
     Start,
     /// It follows the line of a shot whose row is to come.
     InRow,
     /// It follows the edges of a row.
-    Listed(NumberList),
+    Listed,
     /// It follows the weight of a row, or one of its cuts.
-    Cuts {
-        edges: NumberList,
-        weight: u64,
-        cuts: CutList,
-    },
+    Cuts,
     /// It follows whole rows, or none, and no line of a row.
     Between,
     /// It follows the done line.
     End(Totals),
 }
 
-/// What is read of the lines so far.
-#[derive(Drop)]
-pub struct Reading {
-    /// The rows that no line can add to.
-    pub rows: RowList,
-    pub place: Place,
+/// What decides whether a line may follow those before it.
+#[derive(Clone, Copy)]
+pub struct Walk {
+    /// How many rows have begun.
+    pub begun: u64,
+    /// How many of these are of shots without a correction.
+    pub odd: u64,
+    pub stage: Stage,
 }
 
-impl Reading {
-    pub fn new(alloc: Global) -> Self
-        ensures { result ≡ reading [] Place.Start }
+impl Walk {
+    pub fn new() -> Walk
+        ensures { result ≡ walk 0 0 Stage.Start }
     {
-        Reading {
-            rows: RowList::from_vec(Vec::new(alloc)),
-            place: Place::Start,
+        Walk {
+            begun: 0,
+            odd: 0,
+            stage: Stage::Start,
         }
     }
 
-    /// Takes the line of this number, by what it says, if it says something.
-    pub fn take(
-        self,
-        alloc: Global,
-        number: u64,
-        said: Option<Line>,
-    ) -> Result<Reading, ReportFault>
-        ensures ok { IfOk result (λ r. with_line number self said ≡ Ok r) }
-        ensures err { IfErr result (λ e. e ≢ NoMemory → with_line number self said ≡ Err e) }
+    /// Takes the line of this number, by what it says.
+    pub fn take(self, number: u64, said: &Line) -> Result<Walk, ReportFault>
+        requires { self.odd ≤ self.begun }
+        ensures value { result ≡ walk_on number self.begun self.odd self.stage said.now }
+        ensures fewer { IfOk result (λ w. w.odd ≤ w.begun) }
     {
-        let Some(said) = said else {
-            return Err(ReportFault::BadLine(number));
-        };
-        let Reading { rows, place } = self;
-        step(alloc, number, rows, place, said)
+        match (self.stage, said) {
+            (Stage::Start, Line::Head) => Ok(self.at(Stage::Between)),
+            (Stage::InRow, Line::Edges(_)) => Ok(self.at(Stage::Listed)),
+            (Stage::Listed, Line::Weight(_)) => Ok(self.at(Stage::Cuts)),
+            (Stage::Cuts, Line::Cut(_)) => Ok(self),
+            (Stage::Cuts | Stage::Between, said) => self.take_after_rows(number, said),
+            _ => Err(ReportFault::BadLine(number)),
+        }
     }
 
-    /// Ends the reading; `bytes` are left in the line of this number.
-    pub fn end(self, number: u64, bytes: &[u8]) -> Result<Report, ReportFault>
-        ensures { result ≡ ending number self.rows self.place bytes.now }
+    /// Takes the line of this number behind whole rows.
+    fn take_after_rows(self, number: u64, said: &Line) -> Result<Walk, ReportFault>
+        requires { self.odd ≤ self.begun }
+        ensures value { result ≡ walk_on_from_rows number self.begun self.odd said.now }
+        ensures fewer { IfOk result (λ w. w.odd ≤ w.begun) }
     {
-        let Reading { rows, place } = self;
-        let Place::End(totals) = place else {
+        match said {
+            Line::Shot(shot) if self.is_next(*shot) => Ok(Walk {
+                begun: self.begun + 1,
+                odd: self.odd,
+                stage: Stage::InRow,
+            }),
+            Line::Odd(shot, _) if self.is_next(*shot) => Ok(Walk {
+                begun: self.begun + 1,
+                odd: self.odd + 1,
+                stage: Stage::Between,
+            }),
+            Line::Shot(_) | Line::Odd(_, _) => Err(ReportFault::WrongShot(number)),
+            Line::Trace if self.begun != 0 => Ok(self.at(Stage::Between)),
+            Line::Done(totals) if self.has(*totals) => Ok(self.at(Stage::End(*totals))),
+            _ => Err(ReportFault::BadLine(number)),
+        }
+    }
+
+    /// The same numbers at another stage.
+    fn at(self, stage: Stage) -> Walk
+        ensures { result ≡ walk self.begun self.odd stage }
+    {
+        Walk {
+            begun: self.begun,
+            odd: self.odd,
+            stage,
+        }
+    }
+
+    /// Whether the shot is the one after those of the rows.
+    fn is_next(self, shot: u32) -> bool
+        ensures { result ≡ (shot == self.begun) }
+    {
+        u64::from(shot) == self.begun
+    }
+
+    /// Whether the numbers of rows are those of the rows so far.
+    fn has(self, totals: Totals) -> bool
+        ensures { result ≡ (totals.rows == self.begun && totals.odd == self.odd) }
+    {
+        totals.rows == self.begun && totals.odd == self.odd
+    }
+
+    /// Ends the text; `bytes` are left in the line of this number.
+    pub fn end(self, number: u64, bytes: &[u8]) -> Result<Totals, ReportFault>
+        ensures { result ≡ walk_end number self.stage bytes.now }
+    {
+        let Stage::End(totals) = self.stage else {
             return Err(ReportFault::Unfinished);
         };
         if bytes.is_empty() {
-            Ok(Report { rows, totals })
+            Ok(totals)
         } else {
             Err(ReportFault::BadLine(number))
         }
     }
-}
-
-/// Takes the line of this number, by what it says.
-fn step(
-    alloc: Global,
-    number: u64,
-    rows: RowList,
-    place: Place,
-    said: Line,
-) -> Result<Reading, ReportFault>
-    ensures ok { IfOk result (λ r. step number rows place said ≡ Ok r) }
-    ensures err { IfErr result (λ e. e ≢ NoMemory → step number rows place said ≡ Err e) }
-{
-    match place {
-        Place::Start => after_nothing(number, rows, said),
-        Place::InRow => after_shot(number, rows, said),
-        Place::Listed(edges) => after_edges(alloc, number, rows, edges, said),
-        Place::Cuts {
-            edges,
-            weight,
-            cuts,
-        } => after_weight(number, rows, edges, weight, cuts, said),
-        Place::Between => after_rows(number, rows, said),
-        Place::End(_) => Err(ReportFault::BadLine(number)),
-    }
-}
-
-fn after_nothing(number: u64, rows: RowList, said: Line) -> Result<Reading, ReportFault>
-    ensures { result ≡ step number rows Place.Start said }
-{
-    let Line::Head = said else {
-        return Err(ReportFault::BadLine(number));
-    };
-    let place = Place::Between;
-    Ok(Reading { rows, place })
-}
-
-fn after_shot(number: u64, rows: RowList, said: Line) -> Result<Reading, ReportFault>
-    ensures { result ≡ step number rows Place.InRow said }
-{
-    let Line::Edges(edges) = said else {
-        return Err(ReportFault::BadLine(number));
-    };
-    let place = Place::Listed(edges);
-    Ok(Reading { rows, place })
-}
-
-fn after_edges(
-    alloc: Global,
-    number: u64,
-    rows: RowList,
-    edges: NumberList,
-    said: Line,
-) -> Result<Reading, ReportFault>
-    ensures { result ≡ step number rows (Place.Listed edges) said }
-{
-    let Line::Weight(weight) = said else {
-        return Err(ReportFault::BadLine(number));
-    };
-    let place = Place::Cuts {
-        edges,
-        weight,
-        cuts: CutList::from_vec(Vec::new(alloc)),
-    };
-    Ok(Reading { rows, place })
-}
-
-fn after_weight(
-    number: u64,
-    rows: RowList,
-    edges: NumberList,
-    weight: u64,
-    cuts: CutList,
-    said: Line,
-) -> Result<Reading, ReportFault>
-    ensures ok { IfOk result (λ r. step number rows (Place.Cuts edges weight cuts) said ≡ Ok r) }
-    ensures err { IfErr result (λ e. e ≢ NoMemory → step number rows (Place.Cuts edges weight cuts) said ≡ Err e) }
-{
-    match said {
-        Line::Cut(cut) => {
-            let cuts = push_cut(cuts, cut)?;
-            let place = Place::Cuts {
-                edges,
-                weight,
-                cuts,
-            };
-            Ok(Reading { rows, place })
-        }
-        said => {
-            let rows = push_row(
-                rows,
-                Row::Best {
-                    edges,
-                    weight,
-                    cuts,
-                },
-            )?;
-            after_rows(number, rows, said)
-        }
-    }
-}
-
-/// Takes the line of this number behind whole rows.
-fn after_rows(number: u64, rows: RowList, said: Line) -> Result<Reading, ReportFault>
-    ensures ok { IfOk result (λ r. at_row_end number rows said ≡ Ok r) }
-    ensures err { IfErr result (λ e. e ≢ NoMemory → at_row_end number rows said ≡ Err e) }
-{
-    match said {
-        Line::Shot(shot) if is_next(&rows, shot) => {
-            let place = Place::InRow;
-            Ok(Reading { rows, place })
-        }
-        Line::Odd(shot, vertex) if is_next(&rows, shot) => {
-            let rows = push_row(rows, Row::Odd(vertex))?;
-            let place = Place::Between;
-            Ok(Reading { rows, place })
-        }
-        Line::Shot(_) | Line::Odd(_, _) => Err(ReportFault::WrongShot(number)),
-        Line::Trace if !rows.as_slice().is_empty() => {
-            let place = Place::Between;
-            Ok(Reading { rows, place })
-        }
-        Line::Done(totals) if are_of(totals, &rows) => {
-            let place = Place::End(totals);
-            Ok(Reading { rows, place })
-        }
-        _ => Err(ReportFault::BadLine(number)),
-    }
-}
-
-/// Whether the shot is the one after those of the rows.
-fn is_next(rows: &RowList, shot: u32) -> bool
-    ensures { result ≡ (shot == length rows.now) }
-{
-    u64::from(shot) == rows.as_slice().len() as u64
-}
-
-/// Whether the numbers of rows are those of these rows.
-fn are_of(totals: Totals, rows: &RowList) -> bool
-    ensures { result ≡ (totals.rows == length rows.now && totals.odd == count_by is_odd rows.now) }
-{
-    let rows = rows.as_slice();
-    totals.rows == rows.len() as u64 && totals.odd == count_odd(rows)
-}
-
-/// How many of the rows are of shots without a correction.
-fn count_odd(rows: &[Row]) -> u64
-    ensures { result ≡ count_by is_odd rows.now }
-{
-    rows.iter().filter(|row| matches!(row, Row::Odd(_))).count() as u64
-}
-
-/// The rows with one more.
-fn push_row(rows: RowList, row: Row) -> Result<RowList, ReportFault>
-    ensures ok { IfOk result (λ r. r ≡ rows ++ row ∷ []) }
-    ensures err { IfErr result (λ e. e ≡ NoMemory) }
-{
-    let mut rows = rows.into_vec();
-    if rows.push(row).is_err() {
-        return Err(ReportFault::NoMemory);
-    }
-    Ok(RowList::from_vec(rows))
-}
-
-/// The cuts with one more.
-fn push_cut(cuts: CutList, cut: Cut) -> Result<CutList, ReportFault>
-    ensures ok { IfOk result (λ r. r ≡ cuts ++ cut ∷ []) }
-    ensures err { IfErr result (λ e. e ≡ NoMemory) }
-{
-    let mut cuts = cuts.into_vec();
-    if cuts.push(cut).is_err() {
-        return Err(ReportFault::NoMemory);
-    }
-    Ok(CutList::from_vec(cuts))
 }

@@ -1,20 +1,16 @@
-use Rattle.std.proofs.Common.{ap, ◌∙◌, sym, arith}
-use Rattle.fb_verify.specs.Reports.{with_line}
-use Rattle.fb_verify.proofs.LineAfterLine.{read_taken, read_failed}
+use Rattle.std.proofs.Common.{subst, ◌∙◌}
+use Rattle.fb_verify.specs.ReportLines.{Gives}
+use Rattle.fb_verify.specs.declared.report_lines.NextLine.{NextLine}
+use Rattle.fb_verify.proofs.Gathers.{next_holds}
 use Rattle.fb_verify.proofs.report_text.read_text.Goals as goal
 
-pub returns-in-Err-clause-err : goal.returns-in-Err-clause-err
-returns-in-Err-clause-err c = λ some.
-    let at = c.loop-text in
-    at.invariant.1
-    ∙ read_failed at.number at.reading c.in-Err.fault at.rest.now c.in-Some.text.now c.in-Some.more.now c.in-Some.ensures.split
-    (ap (with_line at.number at.reading) (sym c.in-Ok.ensures) ∙ c.in-Err.ensures.err some)
-
-pub loop-text-preserved : goal.loop-text-preserved
-loop-text-preserved c =
-    let at = c.loop-text in (
-      omega (arith, c.in-Some.ensures.shorter),
-      at.invariant.1
-          ∙ read_taken at.number at.reading c.in-Ok-take.next at.rest.now c.in-Some.text.now c.in-Some.more.now c.in-Some.ensures.split
-          (ap (with_line at.number at.reading) (sym c.in-Ok.ensures) ∙ c.in-Ok-take.ensures.ok),
+pub loop-said-preserved : goal.loop-said-preserved
+loop-said-preserved c =
+    let at = c.loop-said.invariant in
+    let taken = subst (λ (l : NextLine). Gives c.loop-said.lines l) c.in-Ok-Line.field-0-is c.in-Ok-Line.ensures.ok at.0 at.1 in (
+      taken.next,
+      taken.at,
+      at.2 ∙ taken.same,
+      next_holds c.loop-said.lines.number at.0 taken.next c.in-Ok-Line.said c.loop-said.gathered c.in_ok-gathered-in-Ok-Line.gathered taken.taken at.3
+          c.in_ok-gathered-in-Ok-Line.ensures.ok,
     )
