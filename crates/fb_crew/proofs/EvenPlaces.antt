@@ -6,6 +6,7 @@ use Rattle.std.proofs.lemmas.Nat.{mul-add-lt}
 use Rattle.std.proofs.lemmas.List.{drop_more, length-map, length-take, take_more}
 use Rattle.std.proofs.Math.Seq.{set-append_seam}
 use Rattle.std.proofs.lemmas.List.Elements.{All-nil, All-cons, All-head, All-tail}
+use Rattle.fb_graph.proofs.ShotGraphs.{same_first_odd}
 use Rattle.fb_graph.specs.Components.{IsFirstOdd}
 use Rattle.fb_graph.specs.Limits.{DecodingGraph, ShotValue, problem_of}
 use Rattle.fb_graph.specs.Parity.{is_in}
@@ -32,13 +33,13 @@ module _ (g : DecodingGraph) where
   rows_right [] [] solved each rows = tt
   rows_right [] (s ∷ ss) solved each rows = absurd each
   rows_right (v ∷ vs) [] solved each rows = absurd each
-  rows_right (Some v ∷ vs) (s ∷ ss) solved each rows = (each.0, rows_right vs ss solved each.1 rows)
+  rows_right (Some v ∷ vs) (s ∷ ss) solved each rows = ((same_first_odd g s (Some v)).0 each.0, rows_right vs ss solved each.1 rows)
   rows_right (None ∷ vs) (s ∷ ss) [] each rows = absurd rows
   rows_right (None ∷ vs) (s ∷ ss) (r ∷ rs) each rows = (rows.0, rows_right vs ss rs each.1 rows.1)
 
   best_row : (shot : ShotValue) (r : Row) → IsFirstOdd (problem_of g shot) None → IsShotRow g shot r → is_best r ≡ true
   best_row shot (Best edges weight cuts) none right = refl
-  best_row shot (Odd v) none right = absurd (none v right.0)
+  best_row shot (Odd v) none right = absurd ((same_first_odd g shot None).0 none v right.0)
 
   chosen : (b : Bool) (xs ys : List ℕ) → b ≡ true → (if b then xs else ys) ≡ xs
   chosen true xs ys e = refl

@@ -2,7 +2,8 @@
 use Rattle.std.specs.Prelude.{ℕ, ◌≡◌, ◌+◌, ◌*◌, ◌≤◌, Bool, true, false, if◌then◌else◌, List, [], ◌∷◌, length}
 use Rattle.std.specs.List.{All, AllZip}
 use Rattle.fb_graph.specs.Answers.{IsRight}
-use Rattle.fb_graph.specs.Limits.{DecodingGraph, ShotValue, problem_of}
+use Rattle.fb_graph.specs.Limits.{DecodingGraph, ShotValue}
+use Rattle.fb_graph.specs.ShotGraphs.{shot_problem}
 use Rattle.fb_graph.specs.Parity.{is_in}
 use Rattle.fb_graph.specs.declared.parts.Row.{Row}
 use Rattle.fb_graph.specs.declared.parts.Row.TheVariants.{Best, Odd}
@@ -14,7 +15,7 @@ use Rattle.fb_slots.specs.Ordered.{IsByItem}
 
 -- the row of a shot
 abbrev pub IsShotRow : DecodingGraph → ShotValue → Row → Type 0
-IsShotRow g shot row = IsRight (problem_of g shot) row
+IsShotRow g shot row = IsRight (shot_problem g shot) row
 
 -- the rows of shots
 abbrev pub AreRows : DecodingGraph → List ShotValue → List Row → Type 0

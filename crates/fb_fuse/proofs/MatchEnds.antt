@@ -3,8 +3,9 @@ use Rattle.std.proofs.Common.{ℕ, ◌≡◌, ◌<◌, true, List, [], length, g
 use Rattle.std.proofs.lemmas.Bool.{false≢true, or_left}
 use Rattle.std.proofs.lemmas.List.{get_or-map, length-map}
 use Rattle.fb_graph.specs.Parity.{is_in}
-use Rattle.fb_graph.specs.Limits.{DecodingGraph, IsGraph}
+use Rattle.fb_graph.specs.Limits.{DecodingGraph, IsGraph, no_shot}
 use Rattle.fb_graph.proofs.Members.{is_in-append}
+use Rattle.fb_graph.proofs.ShotGraphs.{shot_graph_is_graph}
 use Rattle.fb_graph.proofs.Sets.{is_in_at}
 use Rattle.fb_plan.specs.Plans.{PlanTree}
 use Rattle.fb_links.specs.declared.walk.Step.{Step}
@@ -12,7 +13,7 @@ use Rattle.fb_links.specs.Table.{IsLink, is_live, link_at, walk_at}
 use Rattle.fb_links.specs.Walks.{end_of, start_of}
 use Rattle.fb_half.specs.declared.matches.Match.{Match}
 use Rattle.fb_half.specs.Matchings.{match_links}
-use Rattle.fb_half.specs.Parts.{IsPart, PartValue}
+use Rattle.fb_half.specs.Parts.{IsPart, PartValue, graph_in, shot_of}
 use Rattle.fb_half.specs.Translations.{link_by, ring_links}
 use Rattle.fb_half.proofs.SeamOpenings.{step_below, walk_below}
 
@@ -53,7 +54,7 @@ module _ (w : PartValue) (part : IsPart w) where
           (walk_below w.job.graph.vertices walk (are id walk at).some
           (λ k e within.
           let is = (part.links.steps id walk at k e within).0 in
-          step_below w.job.graph graph (get_or walk k e) is.within is.leads)))
+          step_below (graph_in w) (shot_graph_is_graph w.job.graph (shot_of w) graph (part.job.shots w.slot no_shot part.slot)).0 (get_or walk k e) is.within is.leads)))
 
   -- the same of what is read of the part
   pub are_planned : (g : DecodingGraph) (t : PlanTree) (table : List (Option (List Step))) (matches : List Match) → g ≡ w.job.graph → IsGraph g

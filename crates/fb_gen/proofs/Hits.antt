@@ -4,7 +4,7 @@ use Rattle.std.specs.List.{range_with_len}
 use Rattle.std.proofs.Math.Nat.{mod-add-mod}
 use Rattle.std.proofs.lemmas.Bool.{lt-ltb, le-ltb, ltb-true, and_parts}
 use Rattle.fb_graph.specs.Components.{IsFirstOdd}
-use Rattle.fb_graph.specs.Limits.{DecodingGraph, IsShot, ShotValue, is_real_in, problem_of}
+use Rattle.fb_graph.specs.Limits.{DecodingGraph, IsShot, ShotValue, is_real_in, plain_shot, problem_of}
 use Rattle.fb_graph.specs.Parity.{differ, is_in, is_odd_count}
 use Rattle.fb_graph.specs.Problem.{IsEdgeSet, Flips, edge_at, touches}
 use Rattle.fb_graph.proofs.BuildSteps.{range_more}
@@ -12,6 +12,7 @@ use Rattle.fb_graph.proofs.OddComponents.{no_correction}
 use Rattle.fb_graph.proofs.ParitySums.{odd-append, differ-false, differ_comm}
 use Rattle.fb_graph.proofs.Ranges.{filter-range_same, filter-range_rises, filter-range_below, is_in-filter-range}
 use Rattle.fb_graph.proofs.Sets.{All-from_is_in, is_in-filter}
+use Rattle.fb_graph.proofs.ShotGraphs.{no_changes}
 use Rattle.fb_gen.specs.Drawing.{next_state, state_after, drawn_after, hits_of, defects_from, shot_from}
 
 pub next_state-wrapping : (x : ℕ)
@@ -63,15 +64,14 @@ found_as_defects g x y rate flags told found e same each begun =
     ∙ ap (λ z. defects_from g (hits_of z rate (length g.edges))) begun
 
 pub found_as_shot : (g : DecodingGraph) (x y rate : ℕ) (flags told : List Bool) (found : List ℕ) (shot : ShotValue)
-    → shot ≡ record { defects = found }
+    → shot ≡ plain_shot found
     → found ≡ filter (λ v. not (is_in g.virtuals v) && get_or told v false) (range_with_len 0 g.vertices)
     → told ≡ flags
     → ((v : ℕ) → v < g.vertices
     → get_or flags v false ≡ is_odd_count (λ k. touches v (edge_at g.edges k)) (hits_of y rate (length g.edges)))
     → y ≡ x → shot ≡ shot_from g (hits_of x rate (length g.edges))
 found_as_shot g x y rate flags told found shot is e same each begun =
-    let as_shot : List ℕ → ShotValue = λ defects. record { defects = defects } in
-    is ∙ ap as_shot (found_as_defects g x y rate flags told found e same each begun)
+    is ∙ ap plain_shot (found_as_defects g x y rate flags told found e same each begun)
 
 pub drawn_is_shot : (g : DecodingGraph) (chosen : List ℕ) → IsShot g (shot_from g chosen)
 drawn_is_shot g chosen = record {
@@ -79,6 +79,7 @@ drawn_is_shot g chosen = record {
   real = All-from_is_in (λ v. is_real_in g v ≡ true) (defects_from g chosen)
       (λ v within. (and_parts (is_real_in g v) _ (and_parts (is_in (range_with_len 0 g.vertices) v) _
       (sym (is_in-filter _ (range_with_len 0 g.vertices) v) ∙ within)).1).0);
+  changes = no_changes (length g.edges);
 }
 
 pub drawn_flips : (g : DecodingGraph) (chosen : List ℕ) (shot : ShotValue) → shot ≡ shot_from g chosen

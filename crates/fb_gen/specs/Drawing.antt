@@ -3,7 +3,7 @@ use Rattle.std.specs.Prelude.{ℕ, zero, suc, ◌+◌, ◌*◌, ◌/◌, ◌%◌
 use Rattle.std.specs.List.{range_with_len}
 use Rattle.fb_graph.specs.Parity.{is_odd_count}
 use Rattle.fb_graph.specs.Problem.{edge_at, touches}
-use Rattle.fb_graph.specs.Limits.{DecodingGraph, ShotValue, is_real_in}
+use Rattle.fb_graph.specs.Limits.{DecodingGraph, ShotValue, is_real_in, plain_shot}
 
 -- the state that follows a state: a linear congruential generator modulo 2^64
 unfoldable pub next_state : ℕ → ℕ
@@ -29,6 +29,6 @@ defects_from g chosen = filter
     (λ v. is_real_in g v && is_odd_count (λ k. touches v (edge_at g.edges k)) chosen)
     (range_with_len 0 g.vertices)
 
--- the shot that chosen edges leave
+-- the shot that chosen edges leave, in which every edge weighs what it does in the graph
 abbrev pub shot_from : DecodingGraph → List ℕ → ShotValue
-shot_from g chosen = record { defects = defects_from g chosen }
+shot_from g chosen = plain_shot (defects_from g chosen)

@@ -39,7 +39,9 @@ pub mod RaisedNests
 pub mod Ranges
 pub mod RenamedNodes
 pub mod Sets
+pub mod ShotGraphs
 pub mod Shots
+pub mod SortedChanges
 pub mod SourceWalks
 pub mod SplitNests
 pub mod SingleStates

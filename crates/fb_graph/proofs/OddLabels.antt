@@ -115,7 +115,7 @@ module _ (p : Problem) (labels : List ℕ) (limits : IsWithinLimits p) (labellin
   }
 
   module _ (bounded odd : List Bool) (boundary : IsBounded p labels bounded) (counts : AreOdd labels defects odd)
-      (shot : IsShotIn p (record { defects = defects })) where
+      {changes : List (ℕ × ℕ)} (shot : IsShotIn p (record { defects = defects; changes = changes })) where
     defect_below : (d : ℕ) → is_in defects d ≡ true → d < p.vertices
     defect_below d among =
         limits.real_below d (is_in-All (λ v. p.is_real v ≡ true) defects shot.real d among)

@@ -9,7 +9,7 @@ use Rattle.std.proofs.lemmas.List.Sorted.{All-permutation, IsNonDecreasingBy-fro
 use Rattle.std.proofs.lemmas.List.Sums.{sum_by-cons}
 use Rattle.fb_graph.specs.Parity.{is_in}
 use Rattle.fb_graph.specs.Certificate.{AreDistinct}
-use Rattle.fb_graph.specs.Limits.{DecodingGraph, IsGraph, IsShot, is_real_in, most_vertices}
+use Rattle.fb_graph.specs.Limits.{AreChanges, DecodingGraph, IsGraph, IsShot, is_real_in, most_vertices}
 use Rattle.fb_graph.specs.Counts.{as_count}
 use Rattle.fb_graph.proofs.Sets.{count_equal-le, distinct_from_rising, is_in-All, is_in-range, length-le_from_within, range_rises}
 
@@ -57,8 +57,9 @@ rising_from_sort vs ws distinct permuted sorted k less =
     step (inr other) low = omega (arith, other)
 
 -- a shot has at most as many defects as its graph has vertices
-pub length-shot : (g : DecodingGraph) (defects : List ℕ) → IsGraph g → IsShot g (record { defects = defects }) → length defects ≤ most_vertices
-length-shot g defects graph shot =
+pub length-shot : (g : DecodingGraph) (defects : List ℕ) (changes : List (ℕ × ℕ)) → IsGraph g
+    → IsShot g (record { defects = defects; changes = changes }) → length defects ≤ most_vertices
+length-shot g defects changes graph shot =
     omega (
       arith,
       graph.vertices,
@@ -72,8 +73,10 @@ length-shot g defects graph shot =
     below v real = ltb-true v g.vertices (and_parts (nat_lt v g.vertices) (not (is_in g.virtuals v)) real).0
 
 pub shot_from_sort : (g : DecodingGraph) (given defects : List ℕ) → AreDistinct given
-    → All (λ v. is_real_in g v ≡ true) given → IsPermutation given defects → IsSorted nat_cmp defects → IsShot g (record { defects = defects })
-shot_from_sort g given defects distinct real permuted sorted = record {
+    → All (λ v. is_real_in g v ≡ true) given → IsPermutation given defects → IsSorted nat_cmp defects
+    → (changes : List (ℕ × ℕ)) → AreChanges (length g.edges) changes → IsShot g (record { defects = defects; changes = changes })
+shot_from_sort g given defects distinct real permuted sorted changes are = record {
   rising = rising_from_sort given defects distinct permuted sorted;
   real = All-permutation (λ v. is_real_in g v ≡ true) given defects permuted real;
+  changes = are;
 }

@@ -26,6 +26,7 @@ pub mod Parity
 pub mod Printed
 pub mod Problem
 pub mod RenamedNodes
+pub mod ShotGraphs
 pub mod Singles
 pub mod SourceWalks
 pub mod Steps

@@ -1,5 +1,5 @@
 -- What every problem that is solved keeps, and the problem of a whole graph.
-use Rattle.std.specs.Prelude.{ℕ, ◌≡◌, ◌≢◌, ◌<◌, ◌≤◌, ◌%◌, ◌&&◌, Bool, true, false, not, nat_lt, List, [], length, All, filter}
+use Rattle.std.specs.Prelude.{ℕ, ◌≡◌, ◌≢◌, ◌<◌, ◌≤◌, ◌%◌, ◌&&◌, Bool, true, false, not, nat_lt, List, [], length, map, All, filter}
 use Rattle.std.specs.List.{range_with_len}
 use Rattle.std.specs.List.Sorted.{IsStrictlyIncreasing}
 use Rattle.fb_graph.specs.Parity.{is_in}
@@ -44,14 +44,20 @@ is_real_in g v = nat_lt v g.vertices && not (is_in g.virtuals v)
 abbrev pub detectors_of : DecodingGraph → List ℕ
 detectors_of g = filter (λ v. not (is_in g.virtuals v)) (range_with_len 0 g.vertices)
 
--- What one run of an experiment reports: its defects. Weights of its own would be a further field.
+-- What one run of an experiment reports: its defects, and the edges that weigh otherwise in this run than in the graph
+-- (an erasure, a drifted rate), each as its number and its weight.
 pub record ShotValue : Type 0 where
   pub defects : List ℕ
+  pub changes : List (ℕ × ℕ)
+
+-- the shot of these defects in which every edge weighs what it does in the graph
+abbrev pub plain_shot : List ℕ → ShotValue
+plain_shot defects = record { defects = defects; changes = [] }
 
 abbrev pub no_shot : ShotValue
-no_shot = record { defects = [] }
+no_shot = plain_shot []
 
--- The problem with the defects of this shot. Nowhere else does a shot meet its graph.
+-- the problem with the defects of this shot; what its edges weigh for the shot is said in ShotGraphs.antt
 abbrev pub with_shot : Problem → ShotValue → Problem
 with_shot p shot = with_defects p shot.defects
 
@@ -68,10 +74,22 @@ pub record IsGraph (g : DecodingGraph) : Type 0 where
   pub virtuals : All (λ v. v < g.vertices) g.virtuals
   pub rising : IsStrictlyIncreasing g.virtuals
 
--- the defects of a shot: real vertices of the problem, strictly rising
+-- the number of an edge, and an even weight within its limit
+pub record IsChange (edge_count : ℕ) (change : ℕ × ℕ) : Type 0 where
+  pub within : change.0 < edge_count
+  pub even : change.1 % 2 ≡ 0
+  pub light : change.1 ≤ most_weight
+
+-- changed weights: each of an edge of its own, the edges strictly rising
+pub record AreChanges (edge_count : ℕ) (changes : List (ℕ × ℕ)) : Type 0 where
+  pub rising : IsStrictlyIncreasing (map (λ change. change.0) changes)
+  pub each : All (IsChange edge_count) changes
+
+-- a shot of a problem: its defects are real vertices, strictly rising, and its changes are of the problem's edges
 pub record IsShotIn (p : Problem) (shot : ShotValue) : Type 0 where
   pub rising : IsStrictlyIncreasing shot.defects
   pub real : All (λ v. p.is_real v ≡ true) shot.defects
+  pub changes : AreChanges (length p.edges) shot.changes
 
 -- a shot of a whole graph
 abbrev pub IsShot : DecodingGraph → ShotValue → Type 0

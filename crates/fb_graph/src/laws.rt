@@ -3,6 +3,7 @@
 ghost use Rattle.std.specs.Prelude.{◌≡◌};
 ghost use Rattle.fb_graph.specs.Limits.{most_edges, most_vertices, most_weight};
 ghost use Rattle.fb_graph.specs.declared.graph.TheConstants.{MOST_VERTICES, MOST_EDGES, MOST_WEIGHT};
+ghost use Rattle.fb_graph.specs.ShotGraphs.{ShotGraphIsGraph, SameFirstOdd, SameFlips};
 ghost use Rattle.fb_graph.specs.Laws.{WeakDuality, LeastWeight, EqualWeights, NoCorrection, BestHasNoOdd, ClosedIsOdd, LeastIsFirstOdd, SomeIsFirstOdd, PartHasNoOddClosed, EdgeLeaves, PackingOfPart, PackingsJoined, WalkParity, OddOnesRise, OddOnesCount, OddOnesWeigh, Resolving, NoOddComponent, NoOddClosedSet};
 
 /// The limits that `Graph::build` tests are those of the definitions.
@@ -76,4 +77,12 @@ pub fn resolving()
 pub fn no_odd_component()
     ensures closed { NoOddComponent }
     ensures component { NoOddClosedSet }
+{}
+
+/// A graph with the weights of one of its shots is a graph, and has the same shot. Neither which edge sets are
+/// corrections nor whether there is one depends on weights.
+pub fn weights_of_shots()
+    ensures graph { ShotGraphIsGraph }
+    ensures odd { SameFirstOdd }
+    ensures flips { SameFlips }
 {}

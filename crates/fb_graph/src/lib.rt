@@ -3,6 +3,7 @@
 #![tactic(auto)]
 
 mod building;
+pub mod changes;
 pub mod connected;
 pub mod connecting;
 pub mod faults;
@@ -17,13 +18,14 @@ pub mod shot;
 pub mod steps;
 pub mod whole;
 
+pub use changes::ChangeTable;
 pub use connected::{Components, first_odd};
 pub use connecting::{components, components_of};
 pub use faults::{GraphFault, NoMemory};
 pub use graph::{Graph, MOST_VERTICES};
 pub use laws::{
     closed_odd_set, least_weight, no_odd_closed_set, no_odd_component, odd_has_no_correction,
-    odd_occurrences, packings_of_parts, resolving, walk_parity, weak_duality,
+    odd_occurrences, packings_of_parts, resolving, walk_parity, weak_duality, weights_of_shots,
 };
 pub use lists::{CutList, NumberList};
 pub use parts::{Cut, Edge, Row};

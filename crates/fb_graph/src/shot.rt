@@ -1,55 +1,86 @@
-ghost use Rattle.std.specs.Prelude.{◌≡◌, ◌<◌, ◌≤◌, ◌==◌, length, slice_index, All, IfOk, true};
+ghost use Rattle.std.specs.Prelude.{◌≡◌, ◌<◌, ◌≤◌, ◌==◌, [], length, slice_index, All, IfOk, IsOk, true};
 ghost use Rattle.std.specs.List.Sorted.{IsPermutation, IsStrictlyIncreasing};
 ghost use Rattle.fb_graph.specs.Certificate.{AreDistinct};
-ghost use Rattle.fb_graph.specs.Limits.{IsShot, is_real_in, most_vertices};
+ghost use Rattle.fb_graph.specs.Limits.{AreChanges, IsShot, is_real_in, most_vertices, plain_shot};
+ghost use Rattle.fb_graph.specs.Problem.{edge_at};
+ghost use Rattle.fb_graph.specs.ShotGraphs.{shot_graph};
 
+use crate::changes::ChangeTable;
 use crate::faults::NoMemory;
 use crate::graph::Graph;
 use crate::lists::NumberList;
 use std::alloc::Global;
 use std::marker::Model;
 
-/// What one run of an experiment reports: its defects, which are real vertices of a graph, strictly rising.
+/// What one run of an experiment reports: its defects, which are real vertices of a graph, strictly rising, and the
+/// edges that weigh otherwise in this run than in the graph, strictly rising.
 #[derive(Debug, Drop)]
 pub struct Shot {
     defects: NumberList,
+    changes: ChangeTable,
 }
 
 impl Model for Shot {
-    ghost use Rattle.std.specs.Prelude.{◌≤◌, length};
+    ghost use Rattle.std.specs.Prelude.{◌≤◌, All, length};
     ghost use Rattle.std.specs.List.Sorted.{IsStrictlyIncreasing};
     ghost use Rattle.fb_graph.specs.Limits.{ShotValue, most_vertices};
 
     ghost Value = { ShotValue };
 
-    ghost view = { λ s. record { defects = s.defects } };
+    ghost view = { λ s. record { defects = s.defects; changes = s.changes } };
 
     ghost invariant = { λ s. IsStrictlyIncreasing s.defects × (length s.defects ≤ most_vertices) };
 }
 
 impl Shot {
-    /// The shot of these defects, in any order: distinct real vertices of the graph.
-    pub fn from_defects(graph: &Graph, mut defects: Vec<u32>) -> Result<Shot, NoMemory>
+    /// The shot of these defects, in any order: distinct real vertices of the graph. Every edge weighs what it does in
+    /// the graph.
+    pub fn from_defects(graph: &Graph, defects: Vec<u32>) -> Result<Shot, NoMemory>
         requires distinct { AreDistinct defects.items }
         requires real { All (λ v. is_real_in graph.now v ≡ true) defects.items }
         ensures members { IfOk result (λ s. IsPermutation defects.items s.defects) }
+        ensures plain { IfOk result (λ s. s.changes ≡ []) }
         ensures shot { IfOk result (IsShot graph.now) }
     {
+        let changes = Vec::new(*defects.allocator());
+        Shot::with_changes(graph, defects, changes)
+    }
+
+    /// The shot of these defects, in any order: distinct real vertices of the graph. The listed edges weigh what the list
+    /// says and all others what they do in the graph: the edges strictly rise, and each weight is even and at most
+    /// 1,073,741,824. No memory is taken.
+    pub fn with_changes(
+        graph: &Graph,
+        mut defects: Vec<u32>,
+        changes: Vec<(u32, u64)>,
+    ) -> Result<Shot, NoMemory>
+        requires distinct { AreDistinct defects.items }
+        requires real { All (λ v. is_real_in graph.now v ≡ true) defects.items }
+        requires changes { AreChanges (length graph.now.edges) changes.items }
+        ensures members { IfOk result (λ s. IsPermutation defects.items s.defects) }
+        ensures changes { IfOk result (λ s. s.changes ≡ changes.items) }
+        ensures shot { IfOk result (IsShot graph.now) }
+        ensures ok { IsOk result }
+    {
         graph.limits();
-        defects.sort()?;
+        defects.sort_unstable();
         Ok(Shot {
             defects: NumberList::from_vec(defects),
+            changes: ChangeTable::from_vec(changes),
         })
     }
 
-    /// The shot of these defects: real vertices of the graph, strictly rising.
+    /// The shot of these defects: real vertices of the graph, strictly rising. Every edge weighs what it does in the
+    /// graph.
     pub fn from_rising(graph: &Graph, defects: Vec<u32>) -> Shot
-        requires { IsShot graph.now (record { defects = defects.items }) }
-        ensures { result ≡ record { defects = defects.items } }
+        requires { IsShot graph.now (plain_shot defects.items) }
+        ensures { result ≡ plain_shot defects.items }
     {
         graph.limits();
+        let changes = Vec::new(*defects.allocator());
         Shot {
             defects: NumberList::from_vec(defects),
+            changes: ChangeTable::from_vec(changes),
         }
     }
 
@@ -84,13 +115,24 @@ impl Shot {
         self.defects.as_slice()
     }
 
+    /// What an edge of the graph weighs for this shot: even, and at most 1,073,741,824 if the shot is one of the graph.
+    /// Takes as long as the graph's own weight if the shot changes none, else the logarithm of the number of changes.
+    pub fn weight(&self, graph: &Graph, e: u32) -> u64
+        requires { e < length graph.now.edges }
+        ensures { result ≡ (edge_at (shot_graph graph.now self.now).edges e).weight }
+    {
+        self.changes.weight(e, graph.weight(e))
+    }
+
     /// An equal shot.
     pub fn copy(&self, alloc: Global) -> Result<Shot, NoMemory>
         ensures { IfOk result (λ s. s ≡ self.now) }
     {
         let defects = Vec::from_slice(alloc, self.defects.as_slice())?;
+        let changes = self.changes.copy(alloc)?;
         Ok(Shot {
             defects: NumberList::from_vec(defects),
+            changes,
         })
     }
 }

@@ -28,7 +28,7 @@ use Rattle.fb_blossoms.specs.Merged as merged
 use Rattle.fb_half.specs.InternalSeams.{IsBeside, IsOpened, AddsSingles, freed_matching}
 use Rattle.fb_half.specs.Matchings.{match_links}
 use Rattle.fb_half.specs.Merged.{is_owned_by, seam_defects}
-use Rattle.fb_half.specs.Parts.{IsPart, PartValue, shot_of, state_of}
+use Rattle.fb_half.specs.Parts.{IsPart, PartValue, graph_in, shot_of, state_of}
 use Rattle.fb_half.specs.Translations.{cycles_by, link_by, ring_at, ring_links}
 use Rattle.fb_half.proofs.Begun.{live_leaves, single_names, single_nodes, single_values, single_vertices, singles_by}
 use Rattle.fb_half.proofs.BegunParts.{kept_real, same_function, single_real}
@@ -47,7 +47,7 @@ same_state s t nodes cycles matches unmatched =
     ∙ (ap (λ x. record s { nodes = t.nodes; cycles = x }) cycles
     ∙ (ap (λ x. record s { nodes = t.nodes; cycles = t.cycles; matches = x }) matches ∙ ap (λ x. record t { unmatched = x }) unmatched))
 
-module _ (left right : PartValue) (n : ℕ) (limits : IsWithinLimits (problem_at left.job.graph left.job.plan n no_shot))
+module _ (left right : PartValue) (n : ℕ) (limits : IsWithinLimits (problem_at (graph_in left) left.job.plan n no_shot))
     (children : children_of left.job.plan n ≡ Some (left.node, right.node)) (one : IsPart left)
     (two : IsPart (record right { job = left.job; slot = left.slot })) (matched : left.matching.unmatched ≡ []) (also : right.matching.unmatched ≡ [])
     (links names : List (ℕ × ℕ)) (table : Table) (store : Store) (tables : AreMerged left.links right.links links table)

@@ -6,14 +6,14 @@ use Rattle.fb_plan.specs.Plans.{JobValue, PlanTree, children_of, problem_at}
 use Rattle.fb_links.specs.Names.{name_by}
 use Rattle.fb_half.specs.declared.matches.Match.{Match}
 use Rattle.fb_half.specs.Merged.{renamed_match}
-use Rattle.fb_half.specs.Parts.{IsPart, PartValue}
+use Rattle.fb_half.specs.Parts.{IsPart, PartValue, graph_in}
 use Rattle.fb_half.proofs.MergedHalves.{same_part}
 
 pub record AreHalves (j : JobValue) (left right : PartValue) (n : ℕ) : Type 0 where
   pub job : left.job ≡ j
   pub same_job : right.job ≡ left.job
   pub same_slot : right.slot ≡ left.slot
-  pub limits : IsWithinLimits (problem_at left.job.graph left.job.plan n no_shot)
+  pub limits : IsWithinLimits (problem_at (graph_in left) left.job.plan n no_shot)
   pub children : children_of left.job.plan n ≡ Some (left.node, right.node)
   pub one : IsPart left
   pub two : IsPart (record right { job = left.job; slot = left.slot })
@@ -23,7 +23,7 @@ pub record AreHalves (j : JobValue) (left right : PartValue) (n : ℕ) : Type 0 
 -- two halves as they are taken apart
 pub halves_of : (j : JobValue) (n : ℕ) (g : DecodingGraph) (t : PlanTree) (left right first second : PartValue) → left ≡ first → right ≡ second
     → first.job ≡ j → second.job ≡ j → first.slot ≡ second.slot → children_of j.plan n ≡ Some (first.node, second.node)
-    → g ≡ j.graph → t ≡ j.plan → IsWithinLimits (problem_at g t n no_shot) → IsPart first → IsPart second
+    → g ≡ graph_in first → t ≡ j.plan → IsWithinLimits (problem_at g t n no_shot) → IsPart first → IsPart second
     → first.matching.unmatched ≡ [] → second.matching.unmatched ≡ [] → AreHalves j left right n
 halves_of j n g t left right first second left_is right_is first_job second_job slot children graph plan limits one two matched also =
     subst (λ x. AreHalves j x right n) (sym left_is)
@@ -33,8 +33,8 @@ halves_of j n g t left right first second left_is right_is first_job second_job 
       same_job = second_job ∙ sym first_job;
       same_slot = sym slot;
       limits =
-          subst (λ x. IsWithinLimits (problem_at x.graph x.plan n no_shot)) (sym first_job)
-          (subst (λ x. IsWithinLimits (problem_at j.graph x n no_shot)) plan (subst (λ x. IsWithinLimits (problem_at x t n no_shot)) graph limits));
+          subst (λ x. IsWithinLimits (problem_at (graph_in first) x.plan n no_shot)) (sym first_job)
+          (subst (λ x. IsWithinLimits (problem_at (graph_in first) x n no_shot)) plan (subst (λ x. IsWithinLimits (problem_at x t n no_shot)) graph limits));
       children = ap (λ x. children_of x.plan n) first_job ∙ children;
       one = one;
       two = subst IsPart

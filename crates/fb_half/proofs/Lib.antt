@@ -24,5 +24,6 @@ pub mod SeamPlaces
 pub mod SeamedLinks
 pub mod SeamedMatchings
 pub mod AddedSingles
+pub mod SlotScopes
 pub mod Tables
 pub mod Taken

@@ -22,7 +22,7 @@ use Rattle.fb_half.specs.declared.seams.Seams.{Seams}
 use Rattle.fb_half.specs.InternalSeams.{AreBesideListed, IsBeside, IsOpened, meets_seam}
 use Rattle.fb_half.specs.Matchings.{IsMatchOf, match_links}
 use Rattle.fb_half.specs.Merged.{is_alone, is_owned_by, renamed_match, renamed_second}
-use Rattle.fb_half.specs.Parts.{IsPart, PartValue, problem_in}
+use Rattle.fb_half.specs.Parts.{IsPart, PartValue, graph_in, problem_in}
 use Rattle.fb_half.specs.Seams.{AreListed, IsListed, far_end, names_under}
 use Rattle.fb_half.specs.Translations.{link_by}
 use Rattle.fb_half.specs.Values.{HasScope, IsScopeOf, part_of}
@@ -55,7 +55,7 @@ second_back : (f : ℕ → ℕ) (o : Option ℕ) → renamed_second f o ≡ None
 second_back f None h = refl
 second_back f (Some b) h = absurd (let clash : Some (f b) ≡ None = h in cc)
 
-module _ (left right : PartValue) (n : ℕ) (limits : IsWithinLimits (problem_at left.job.graph left.job.plan n no_shot))
+module _ (left right : PartValue) (n : ℕ) (limits : IsWithinLimits (problem_at (graph_in left) left.job.plan n no_shot))
     (children : children_of left.job.plan n ≡ Some (left.node, right.node)) (one : IsPart left)
     (two : IsPart (record right { job = left.job; slot = left.slot })) (matched : left.matching.unmatched ≡ []) (also : right.matching.unmatched ≡ [])
     (links names : List (ℕ × ℕ)) (table : Table) (store : Store) (tables : AreMerged left.links right.links links table)

@@ -23,6 +23,7 @@ use Rattle.fb_laws.specs.Fusion.{IsLinkOf}
 use Rattle.fb_plan.specs.Plans.{IsPlan, JobValue, PlanTree, children_of, node_count, owner_of, problem_at}
 use Rattle.fb_plan.specs.Seams.{is_own, is_owner}
 use Rattle.fb_plan.proofs.FusionSeams.{fusion_is_parts, seam_is_apart}
+use Rattle.fb_plan.proofs.ShotPlans.{shot_plan}
 use Rattle.fb_plan.proofs.SubProblems.{child_is_part, children_are_separated, fusion_of}
 use Rattle.fb_links.specs.Merged.{AreMerged}
 use Rattle.fb_links.specs.Names.{name_by}
@@ -33,7 +34,7 @@ use Rattle.fb_half.specs.declared.matches.Match.{Match}
 use Rattle.fb_half.specs.InternalSeams.{IsBeside}
 use Rattle.fb_half.specs.Matchings.{MatchingValue, listed_names, match_links, matched_names}
 use Rattle.fb_half.specs.Merged.{is_owned_by, renamed_match}
-use Rattle.fb_half.specs.Parts.{IsPart, PartValue, kept_links, problem_in, shot_of}
+use Rattle.fb_half.specs.Parts.{IsPart, PartValue, graph_in, kept_links, problem_in, shot_of}
 use Rattle.fb_half.specs.Translations.{link_by, ring_links}
 use Rattle.fb_half.proofs.BesideLinks.{link_left, link_right, links_beside, links_renamed, rings_renamed, rings_same}
 use Rattle.fb_half.proofs.BesideMatchings.{listed_beside, matching_beside, names_renamed}
@@ -90,17 +91,17 @@ scoped_parts j n left right l r g h k t u w plan children eg eh ek et eu ew el e
     at : (g : DecodingGraph) (t : PlanTree) (m k : ℕ) → g ≡ j.graph → t ≡ j.plan → m ≡ k → problem_at g t m no_shot ≡ problem_at j.graph j.plan k no_shot
     at g t m k a b c = ap (λ x. problem_at x t m no_shot) a ∙ (ap (λ x. problem_at j.graph x m no_shot) b ∙ ap (λ x. problem_at j.graph j.plan x no_shot) c)
 
-module _ (left right : PartValue) (n : ℕ) (limits : IsWithinLimits (problem_at left.job.graph left.job.plan n no_shot))
+module _ (left right : PartValue) (n : ℕ) (limits : IsWithinLimits (problem_at (graph_in left) left.job.plan n no_shot))
     (children : children_of left.job.plan n ≡ Some (left.node, right.node)) (one : IsPart left)
     (two : IsPart (record right { job = left.job; slot = left.slot })) (matched : left.matching.unmatched ≡ []) (also : right.matching.unmatched ≡ []) where
   abbrev pub p : Problem
   p = problem_in left
 
   abbrev pub q : Problem
-  q = problem_at left.job.graph left.job.plan right.node (shot_of left)
+  q = problem_at (graph_in left) left.job.plan right.node (shot_of left)
 
   abbrev pub whole : Problem
-  whole = problem_at left.job.graph left.job.plan n (shot_of left)
+  whole = problem_at (graph_in left) left.job.plan n (shot_of left)
 
   abbrev pub middle : Problem
   middle = without_seam p q whole
@@ -110,11 +111,14 @@ module _ (left right : PartValue) (n : ℕ) (limits : IsWithinLimits (problem_at
       let (i, less, is, join) = fusion_of left.job.plan n left.node right.node children in
       omega (arith, less, is)
 
+  plan : IsPlan (graph_in left) left.job.plan
+  plan = shot_plan left.job.graph left.job.plan (shot_of left) one.job.plan
+
   pub parts : AreParts p q whole
   parts = record {
-    left_part = (child_is_part left.job.graph left.job.plan n left.node right.node (shot_of left) one.job.plan children).0;
-    right_part = (child_is_part left.job.graph left.job.plan n left.node right.node (shot_of left) one.job.plan children).1;
-    separated = children_are_separated left.job.graph left.job.plan n left.node right.node (shot_of left) one.job.plan children;
+    left_part = (child_is_part (graph_in left) left.job.plan n left.node right.node (shot_of left) plan children).0;
+    right_part = (child_is_part (graph_in left) left.job.plan n left.node right.node (shot_of left) plan children).1;
+    separated = children_are_separated (graph_in left) left.job.plan n left.node right.node (shot_of left) plan children;
   }
 
   pub parts_middle : AreParts p q middle

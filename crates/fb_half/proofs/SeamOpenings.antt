@@ -13,6 +13,7 @@ use Rattle.fb_graph.specs.Certificate.{AreDistinct}
 use Rattle.fb_graph.specs.Components.{Leads}
 use Rattle.fb_graph.specs.Dual.{Node, cover_of, defects_of, is_empty, is_live, leaves}
 use Rattle.fb_graph.specs.Limits.{DecodingGraph, IsGraph, IsShot, no_shot}
+use Rattle.fb_graph.proofs.ShotGraphs.{shot_graph_is_graph}
 use Rattle.fb_graph.proofs.Among.{IsAmong, All_among, among_All, live_among}
 use Rattle.fb_graph.proofs.Members.{is_in-append, distinct_left}
 use Rattle.fb_graph.proofs.Sets.{distinct-filter, distinct_from_rising, is_in-head}
@@ -27,7 +28,7 @@ use Rattle.fb_half.specs.declared.matches.Match.{Match}
 use Rattle.fb_half.specs.InternalSeams.{AddsSingles, IsBeside, IsFreed, IsOpened, meets_seam, met_matches, met_nodes}
 use Rattle.fb_half.specs.Matchings.{MatchingValue, listed_names, match_links, matched_names, names_of}
 use Rattle.fb_half.specs.Merged.{IsPlanned, is_owned_by, seam_defects}
-use Rattle.fb_half.specs.Parts.{AreAgreed, PartValue, problem_in, shot_of}
+use Rattle.fb_half.specs.Parts.{AreAgreed, PartValue, graph_in, problem_in, shot_of}
 use Rattle.fb_half.specs.Translations.{children_at, link_by, ring_links}
 use Rattle.fb_half.proofs.BegunParts.{kept_real, shot_below}
 use Rattle.fb_half.proofs.FlatPermutations.{flat_permuted}
@@ -112,6 +113,9 @@ seam_opened (Ok x) before mid m links nodes store plan read same is freed added 
     }
 
 module _ (w : PartValue) (job : IsJob w.job) (graph : IsGraph w.job.graph) (b : IsBeside w) where
+  shot : IsShot w.job.graph (shot_of w)
+  shot = job.shots w.slot no_shot b.slot
+
   pub own_links : AreDistinct (match_links w.matching.matches)
   own_links = distinct_left (match_links w.matching.matches) (ring_links w.nodes w.store) b.links.distinct
 
@@ -142,11 +146,8 @@ module _ (w : PartValue) (job : IsJob w.job) (graph : IsGraph w.job.graph) (b : 
           (λ i d less.
           let s : Step = get_or walk i d in
           let is = (steps i d less).0 in
-          step_below w.job.graph graph s (subst (λ es. s.edge < length es) b.edges is.within)
+          step_below (graph_in w) (shot_graph_is_graph w.job.graph (shot_of w) graph shot).0 s (subst (λ es. s.edge < length es) b.edges is.within)
           (subst (λ es. Leads (edge_at es s.edge) s.from s.to) b.edges is.leads))))
-
-  shot : IsShot w.job.graph (shot_of w)
-  shot = job.shots w.slot no_shot b.slot
 
   pub shot_rises : IsStrictlyIncreasing (shot_of w).defects
   shot_rises = shot.rising

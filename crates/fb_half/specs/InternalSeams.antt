@@ -17,7 +17,7 @@ use Rattle.fb_half.specs.Beginnings.{leaves_by}
 use Rattle.fb_half.specs.InternalBeginnings.{leaf_at}
 use Rattle.fb_half.specs.Matchings.{IsMatchingOf, MatchingValue, match_links}
 use Rattle.fb_half.specs.Merged.{is_alone, is_owned_by, seam_defects}
-use Rattle.fb_half.specs.Parts.{AreAgreed, AreLinksOf, PartValue, kept_links, problem_in}
+use Rattle.fb_half.specs.Parts.{AreAgreed, AreLinksOf, PartValue, graph_in, kept_links, problem_in}
 use Rattle.fb_half.specs.Seams.{AreListed}
 use Rattle.fb_half.specs.Translations.{link_by}
 use Rattle.fb_half.specs.declared.seams.Seams.{Seams}
@@ -62,7 +62,7 @@ pub record IsBeside (w : PartValue) : Type 0 where
   -- the seam is real in the part's own problem
   pub real : (v : ℕ) → is_owned_by w.job.plan w.node v ≡ true → (problem_in w).is_real v ≡ true
   pub problem : Problem
-  pub edges : problem.edges ≡ w.job.graph.edges
+  pub edges : problem.edges ≡ (graph_in w).edges
   pub apart : (v : ℕ) → is_owned_by w.job.plan w.node v ≡ true → problem.is_real v ≡ false
   -- and it is all that becomes real
   pub part : (v : ℕ) → problem.is_real v ≡ true → (problem_in w).is_real v ≡ true

@@ -5,7 +5,8 @@ use Rattle.fb_graph.specs.Problem.{Problem, edge_at}
 use Rattle.fb_graph.specs.Certificate.{AreDistinct}
 use Rattle.fb_graph.specs.Laws.{has_real_end}
 use Rattle.fb_graph.specs.Dual.{Node, defects_of, is_empty, is_live}
-use Rattle.fb_graph.specs.Limits.{ShotValue, no_shot}
+use Rattle.fb_graph.specs.Limits.{DecodingGraph, ShotValue, no_shot}
+use Rattle.fb_graph.specs.ShotGraphs.{shot_graph}
 use Rattle.fb_plan.specs.Plans.{JobValue, node_count, problem_at}
 use Rattle.fb_plan.specs.Laws.{IsJob}
 use Rattle.fb_links.specs.declared.walk.Step.{Step}
@@ -34,9 +35,13 @@ pub record PartValue : Type 0 where
 abbrev pub shot_of : PartValue → ShotValue
 shot_of w = get_or w.job.shots w.slot no_shot
 
+-- the graph with the weights of that shot
+abbrev pub graph_in : PartValue → DecodingGraph
+graph_in w = shot_graph w.job.graph (shot_of w)
+
 -- the sub-problem of the part's node
 abbrev pub problem_in : PartValue → Problem
-problem_in w = problem_at w.job.graph w.job.plan w.node (shot_of w)
+problem_in w = problem_at (graph_in w) w.job.plan w.node (shot_of w)
 
 -- the part as the laws see it
 abbrev pub state_of : PartValue → PartState

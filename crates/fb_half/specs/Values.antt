@@ -1,7 +1,8 @@
 -- The value of the parts of a half-solved part, and what its pieces have to do with it.
 use Rattle.std.specs.Prelude.{◌≡◌}
+use Rattle.fb_plan.specs.Scopes.{scope_graph}
 use Rattle.fb_plan.specs.declared.scope.NodeScope.{NodeScope}
-use Rattle.fb_half.specs.Parts.{PartValue, problem_in}
+use Rattle.fb_half.specs.Parts.{PartValue, graph_in, problem_in}
 use Rattle.fb_half.specs.Seams.{AreListed}
 use Rattle.fb_half.specs.declared.parts.Parts.{Parts}
 
@@ -16,15 +17,15 @@ part_of parts = record {
   matching = parts.matching;
 }
 
--- the sub-problem of the part's node
+-- the sub-problem of the part's node, with the weights of its slot's shot
 pub record IsScopeOf (scope : NodeScope) (w : PartValue) : Type 0 where
-  pub graph : scope.graph.now ≡ w.job.graph
+  pub graph : scope_graph scope ≡ graph_in w
   pub plan : scope.plan.now ≡ w.job.plan
   pub node : scope.node ≡ w.node
 
--- The regions are those of the part's node of the plan, and the index has all matches to the boundary.
+-- The regions are those of the part's node of the plan, with the weights of its slot's shot, and the index has all matches to the boundary.
 pub record HasScope (parts : Parts) : Type 0 where
-  pub graph : parts.regions.scope.graph.now ≡ parts.job.now.graph
+  pub graph : scope_graph parts.regions.scope ≡ graph_in (part_of parts)
   pub plan : parts.regions.scope.plan.now ≡ parts.job.now.plan
   pub node : parts.regions.scope.node ≡ parts.node
   pub listed : AreListed (problem_in (part_of parts)).is_real parts.job.now.plan parts.seams parts.links parts.matching.matches

@@ -4,12 +4,12 @@ ghost use Rattle.std.specs.Prelude.{◌≡◌, ◌≢◌, ◌<◌, ◌++◌, ℕ
 ghost use Rattle.std.specs.List.Sorted.{IsStrictlyIncreasing};
 ghost use Rattle.fb_graph.specs.Certificate.{AreDistinct};
 ghost use Rattle.fb_graph.specs.Dual.{cover_of, is_live as is_node};
-ghost use Rattle.fb_graph.specs.Limits.{no_shot};
 ghost use Rattle.fb_graph.specs.NestUnions.{AreParts};
 ghost use Rattle.fb_graph.specs.Parity.{is_in};
 ghost use Rattle.fb_graph.specs.RenamedNodes.{renamed_nodes};
 ghost use Rattle.fb_regions.specs.Merged.{AreNewNames};
-ghost use Rattle.fb_plan.specs.Plans.{node_count, problem_at};
+ghost use Rattle.fb_plan.specs.Plans.{node_count};
+ghost use Rattle.fb_plan.specs.Scopes.{scope_problem};
 ghost use Rattle.fb_links.specs.Merged.{AreMerged};
 ghost use Rattle.fb_links.specs.Names.{name_by};
 ghost use Rattle.fb_links.specs.Table.{is_live};
@@ -101,7 +101,7 @@ pub(crate) fn merged_parts<'a>(
 ) -> Result<MergedParts<'a>, NoMemory>
     requires leaves { AreLeavesApart left.blossoms right.blossoms }
     requires names { (store : List (Option blossoms.Node)) (links names : List (ℕ × ℕ)) → merged.IsMerged left.blossoms right.blossoms store links names → AreNewNames left.regions.nodes right.regions.nodes (name_by names) }
-    requires parts { AreParts (problem_at left.regions.scope.graph.now left.regions.scope.plan.now left.regions.scope.node no_shot) (problem_at right.regions.scope.graph.now right.regions.scope.plan.now right.regions.scope.node no_shot) (problem_at scope.now.graph.now scope.now.plan.now scope.now.node no_shot) }
+    requires parts { AreParts (scope_problem left.regions.scope) (scope_problem right.regions.scope) (scope_problem scope.now) }
     requires left_vertices { left.regions.scope.graph.now.vertices ≡ scope.now.graph.now.vertices }
     requires right_vertices { right.regions.scope.graph.now.vertices ≡ scope.now.graph.now.vertices }
     ensures links { IfOk result (λ m. AreMerged left.entry.links right.entry.links m.link_names.items m.parts.links) }
@@ -211,7 +211,7 @@ pub fn leads_to_seam(links: &Links, m: Match, scope: &NodeScope<'_>, node: u32) 
     requires live { is_live links.now m.link ≡ true }
     requires ends { IsPlanned scope.now.plan.now (link_by links.now m.link) }
     requires vertices { length scope.now.plan.now.owners ≡ scope.now.graph.now.vertices }
-    ensures { result ≡ leads_to_seam (problem_at scope.now.graph.now scope.now.plan.now scope.now.node no_shot).is_real
+    ensures { result ≡ leads_to_seam (scope_problem scope.now).is_real
         scope.now.plan.now node links.now m }
 {
     m.second.is_none() && far_owner(links, m.link, scope) == Some(node)
@@ -347,7 +347,7 @@ fn add_leaves(
     vertices: &[u32],
 ) -> Result<(), NoMemory>
     requires distinct { AreDistinct vertices.now }
-    requires real { All (λ v. (problem_at regions.old.scope.graph.now regions.old.scope.plan.now regions.old.scope.node no_shot).is_real v ≡ true) vertices.now }
+    requires real { All (λ v. (scope_problem regions.old.scope).is_real v ≡ true) vertices.now }
     requires uncovered { All (λ v. cover_of regions.old.nodes v ≡ None) vertices.now }
     requires leafless { All (λ v. (x : ℕ) → blossoms.node_at store.old x ≢ Some (blossoms.leaf v)) vertices.now }
     requires live { (name : ℕ) → blossoms.node_at store.old name ≡ None → is_node regions.old.nodes name ≡ false }

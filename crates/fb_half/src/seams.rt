@@ -1,11 +1,11 @@
 //! The matches of a part to the boundary, found by the node of the plan that owns the vertex there.
 
 ghost use Rattle.std.specs.Prelude.{◌≡◌, ◌≢◌, ◌==◌, ℕ, true, [], ◌∷◌, ◌++◌, map, length, if◌then◌else◌, IfOk, OnOk};
-ghost use Rattle.fb_graph.specs.Limits.{no_shot};
 ghost use Rattle.fb_graph.specs.Parity.{is_in};
 ghost use Rattle.fb_links.specs.Names.{name_by};
 ghost use Rattle.fb_links.specs.Table.{is_live};
-ghost use Rattle.fb_plan.specs.Plans.{owner_of, problem_at};
+ghost use Rattle.fb_plan.specs.Plans.{owner_of};
+ghost use Rattle.fb_plan.specs.Scopes.{scope_problem};
 ghost use Rattle.fb_plan.specs.Vertices.{is_node};
 ghost use Rattle.fb_half.specs.Merged.{IsPlanned};
 ghost use Rattle.fb_half.specs.Seams.{far_end, names_under};
@@ -107,7 +107,7 @@ pub fn far_owner(links: &Links, link: LinkId, scope: &NodeScope<'_>) -> Option<u
     requires ends { IsPlanned scope.now.plan.now (link_by links.now link) }
     requires vertices { length scope.now.plan.now.owners ≡ scope.now.graph.now.vertices }
     ensures { result ≡ owner_of scope.now.plan.now
-        (far_end (problem_at scope.now.graph.now scope.now.plan.now scope.now.node no_shot).is_real (link_by links.now link)) }
+        (far_end (scope_problem scope.now).is_real (link_by links.now link)) }
 {
     let (from, to) = links.ends(link);
     let far = if scope.is_real(from) { to } else { from };

@@ -1,4 +1,4 @@
-ghost use Rattle.std.specs.Prelude.{◌≡◌, [], IfOk};
+ghost use Rattle.std.specs.Prelude.{◌≡◌, ◌<◌, [], length, IfOk};
 ghost use Rattle.fb_half.specs.InternalBeginnings.{empty_part};
 ghost use Rattle.fb_half.specs.Values.{IsScopeOf, part_of};
 
@@ -9,7 +9,7 @@ use crate::seams::Seams;
 use fb_blossoms::Blossoms;
 use fb_graph::NoMemory;
 use fb_links::Links;
-use fb_plan::{Job, NodeScope};
+use fb_plan::Job;
 use fb_regions::{Regions, SpareRegions};
 use std::alloc::Global;
 use std::marker::Model;
@@ -108,6 +108,7 @@ pub(crate) fn empty_parts<'a>(
     node: u32,
     spare: Option<Spare>,
 ) -> Result<Parts<'a>, NoMemory>
+    requires slot { slot < length job.now.shots }
     ensures value { IfOk result (λ p. part_of p ≡ empty_part job.now slot node) }
     ensures scope { IfOk result (λ p. IsScopeOf p.regions.scope (part_of p)) }
 {
@@ -124,11 +125,12 @@ fn new_parts<'a>(
     slot: u32,
     node: u32,
 ) -> Result<Parts<'a>, NoMemory>
+    requires slot { slot < length job.now.shots }
     ensures value { IfOk result (λ p. part_of p ≡ empty_part job.now slot node) }
     ensures scope { IfOk result (λ p. IsScopeOf p.regions.scope (part_of p)) }
 {
     let tables = EmptyTables::new(alloc)?;
-    let (regions, tables) = both(Regions::new(alloc, &scope_of(job, node)), tables)?;
+    let (regions, tables) = both(Regions::new(alloc, &job.scope(slot, node)), tables)?;
     Ok(Parts {
         regions,
         links: tables.links,
@@ -149,11 +151,12 @@ fn parts_on<'a>(
     slot: u32,
     node: u32,
 ) -> Result<Parts<'a>, NoMemory>
+    requires slot { slot < length job.now.shots }
     ensures value { IfOk result (λ p. part_of p ≡ empty_part job.now slot node) }
     ensures scope { IfOk result (λ p. IsScopeOf p.regions.scope (part_of p)) }
 {
     Ok(Parts {
-        regions: Regions::on(alloc, spare.regions, &scope_of(job, node))?,
+        regions: Regions::on(alloc, spare.regions, &job.scope(slot, node))?,
         links: spare.links,
         blossoms: spare.blossoms,
         matching: spare.matching,
@@ -162,17 +165,4 @@ fn parts_on<'a>(
         slot,
         node,
     })
-}
-
-/// The node's scope.
-fn scope_of<'a>(job: &'a Job<'a>, node: u32) -> NodeScope<'a>
-    ensures graph { result.graph.now ≡ job.now.graph }
-    ensures plan { result.plan.now ≡ job.now.plan }
-    ensures node { result.node ≡ node }
-{
-    NodeScope {
-        graph: job.graph(),
-        plan: job.plan(),
-        node,
-    }
 }

@@ -5,6 +5,7 @@ ghost use Rattle.fb_graph.specs.Dual.{cover_of, is_live, leaf};
 ghost use Rattle.fb_graph.specs.Limits.{no_shot};
 ghost use Rattle.fb_graph.specs.Parity.{is_in};
 ghost use Rattle.fb_plan.specs.Plans.{problem_at};
+ghost use Rattle.fb_plan.specs.Scopes.{scope_problem};
 ghost use Rattle.fb_blossoms.specs.Nodes as blossoms;
 ghost use Rattle.fb_half.specs.InternalBeginnings.{IsStarted, LiesWithin, empty_part};
 ghost use Rattle.fb_half.specs.Matchings.{listed_names};
@@ -28,10 +29,10 @@ pub(crate) fn own_defects(
     reach: Reach,
     defects: &[u32],
 ) -> Result<Vec<u32>, NoMemory>
-    requires reach { LiesWithin (problem_at scope.now.graph.now scope.now.plan.now scope.now.node no_shot) reach }
+    requires reach { LiesWithin (scope_problem scope.now) reach }
     requires rising { IsStrictlyIncreasing defects.now }
     requires vertices { All (λ v. v < scope.now.graph.now.vertices) defects.now }
-    ensures { IfOk result (λ own. own.items ≡ filter (problem_at scope.now.graph.now scope.now.plan.now scope.now.node no_shot).is_real defects.now) }
+    ensures { IfOk result (λ own. own.items ≡ filter (scope_problem scope.now).is_real defects.now) }
 {
     let reached = within(defects, reach);
     let mut own = NumberList::from_vec(Vec::new(alloc));
@@ -53,11 +54,7 @@ pub(crate) fn defects_at(
     ensures { IfOk result (λ own. own.items ≡ filter (problem_at job.now.graph job.now.plan node no_shot).is_real (get_or job.now.shots slot no_shot).defects) }
 {
     job.keeps();
-    let scope = NodeScope {
-        graph: job.graph(),
-        plan: job.plan(),
-        node,
-    };
+    let scope = job.scope(slot, node);
     let reach = job.plan().reach(node);
     own_defects(alloc, &scope, reach, job.shots()[slot as usize].as_slice())
 }
@@ -71,7 +68,7 @@ pub(crate) fn add_leaf(
     v: u32,
 ) -> Result<NodeId, NoMemory>
     requires below { v < regions.old.scope.graph.now.vertices }
-    requires real { (problem_at regions.old.scope.graph.now regions.old.scope.plan.now regions.old.scope.node no_shot).is_real v ≡ true }
+    requires real { (scope_problem regions.old.scope).is_real v ≡ true }
     requires uncovered { cover_of regions.old.nodes v ≡ None }
     requires leafless { (x : ℕ) → blossoms.node_at store.old x ≢ Some (blossoms.leaf v) }
     requires live { (name : ℕ) → blossoms.node_at store.old name ≡ None → is_live regions.old.nodes name ≡ false }

@@ -216,13 +216,9 @@ impl<'a> Work<'a> {
         job.keeps();
         left.keeps();
         right.keeps();
+        let scope = job.scope(left.slot(), node);
         let left = left.into_parts();
         let right = right.into_parts();
-        let scope = NodeScope {
-            graph: job.graph(),
-            plan: job.plan(),
-            node,
-        };
         scope.limits();
         let mut merged = merged_parts(alloc, &scope, left, right)?;
         let whole = complete(alloc, &mut merged).and(Ok(merged))?;

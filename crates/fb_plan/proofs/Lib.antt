@@ -7,6 +7,7 @@ pub mod Ownership
 pub mod Queries
 pub mod Reaches
 pub mod Roots
+pub mod ShotPlans
 pub mod Sorting
 pub mod Spans
 pub mod Stages

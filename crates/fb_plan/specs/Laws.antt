@@ -2,6 +2,7 @@
 use Rattle.std.specs.Prelude.{ℕ, ◌≡◌, ◌+◌, ◌<◌, ◌^◌, ◌⊎◌, true, length, All, Some, None}
 use Rattle.fb_graph.specs.Components.{IsFirstOdd}
 use Rattle.fb_graph.specs.Limits.{DecodingGraph, IsShot, ShotValue, problem_of}
+use Rattle.fb_graph.specs.ShotGraphs.{shot_graph}
 use Rattle.fb_graph.specs.Laws.{HasNoOddClosed, IsPart, AreSeparated}
 use Rattle.fb_plan.specs.Plans.{PlanTree, JobValue, IsPlan, IsTree, children_of, is_within, node_count, parent_of, problem_at, root_of}
 
@@ -21,6 +22,11 @@ NodeIsPart = (g : DecodingGraph) (t : PlanTree) (n : ℕ) (shot : ShotValue)
 abbrev pub NodeHasNoOddClosed : Type 0
 NodeHasNoOddClosed = (g : DecodingGraph) (t : PlanTree) (n : ℕ) (shot : ShotValue)
     → IsFirstOdd (problem_of g shot) None → HasNoOddClosed (problem_at g t n shot)
+
+-- That holds with the weights of the shot too.
+abbrev pub ShotHasNoOddClosed : Type 0
+ShotHasNoOddClosed = (g : DecodingGraph) (t : PlanTree) (n : ℕ) (shot : ShotValue)
+    → IsFirstOdd (problem_of g shot) None → HasNoOddClosed (problem_at (shot_graph g shot) t n shot)
 
 -- A child's sub-problem is a part of its parent's.
 abbrev pub ChildIsPart : Type 0
@@ -63,3 +69,7 @@ Nesting = (t : PlanTree) → IsTree t → (a b n : ℕ) → is_within t a b ≡ 
 abbrev pub Ancestors : Type 0
 Ancestors = (t : PlanTree) → IsTree t → (a b n : ℕ) → is_within t a n ≡ true → is_within t b n ≡ true
     → (is_within t a b ≡ true) ⊎ (is_within t b a ≡ true)
+
+-- A plan of a graph is one of the graph with the weights of any shot.
+abbrev pub PlanOfShotGraph : Type 0
+PlanOfShotGraph = (g : DecodingGraph) (t : PlanTree) (shot : ShotValue) → IsPlan g t → IsPlan (shot_graph g shot) t

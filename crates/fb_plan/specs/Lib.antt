@@ -5,5 +5,6 @@ pub mod Laws
 pub mod Plans
 pub mod Reaches
 pub mod Rules
+pub mod Scopes
 pub mod Seams
 pub mod Vertices

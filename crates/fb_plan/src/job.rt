@@ -1,10 +1,11 @@
-ghost use Rattle.std.specs.Prelude.{◌≡◌, ◌<◌, ◌^◌, None, length, All};
+ghost use Rattle.std.specs.Prelude.{◌≡◌, ◌<◌, ◌^◌, None, length, get_or, All};
 ghost use Rattle.fb_graph.specs.Components.{IsFirstOdd};
-ghost use Rattle.fb_graph.specs.Limits.{IsShot, problem_of};
+ghost use Rattle.fb_graph.specs.Limits.{IsShot, no_shot, problem_of};
 ghost use Rattle.fb_plan.specs.Plans.{IsPlan};
 ghost use Rattle.fb_plan.specs.Laws.{IsJob};
 
 use crate::plan::Plan;
+use crate::scope::NodeScope;
 use fb_graph::{Graph, Shot};
 use std::marker::Model;
 
@@ -58,6 +59,22 @@ impl<'a> Job<'a> {
         ensures { result.now ≡ self.now.shots }
     {
         self.shots.as_slice()
+    }
+
+    /// The sub-problem of a node, with the weights of a slot's shot.
+    pub fn scope(&'a self, slot: u32, node: u32) -> NodeScope<'a>
+        requires slot { slot < length self.now.shots }
+        ensures graph { result.graph.now ≡ self.now.graph }
+        ensures plan { result.plan.now ≡ self.now.plan }
+        ensures node { result.node ≡ node }
+        ensures shot { result.shot.now ≡ get_or self.now.shots slot no_shot }
+    {
+        NodeScope {
+            graph: self.graph,
+            plan: self.plan,
+            node,
+            shot: &self.shots[slot as usize],
+        }
     }
 
     /// Does nothing. Its clause says what every job keeps.

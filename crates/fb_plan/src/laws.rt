@@ -3,7 +3,7 @@
 ghost use Rattle.std.specs.Prelude.{◌≡◌};
 ghost use Rattle.fb_plan.specs.Plans.{most_units};
 ghost use Rattle.fb_plan.specs.declared.plan.TheConstants.{MOST_UNITS};
-ghost use Rattle.fb_plan.specs.Laws.{AllBelowRoot, Ancestors, ChildIsPart, ChildrenAreSeparated, CountOfNodes, Nesting, NodeHasNoOddClosed, NodeIsPart, OneParent, RootIsWhole};
+ghost use Rattle.fb_plan.specs.Laws.{AllBelowRoot, Ancestors, ChildIsPart, ChildrenAreSeparated, CountOfNodes, Nesting, NodeHasNoOddClosed, NodeIsPart, OneParent, PlanOfShotGraph, RootIsWhole, ShotHasNoOddClosed};
 ghost use Rattle.fb_plan.specs.Seams.{FusionIsParts, SeamIsApart, UnitIsOwn};
 
 /// The limit that `Plan::build` tests is that of the definitions.
@@ -18,6 +18,12 @@ pub fn sub_problems()
     ensures child { ChildIsPart }
     ensures root { RootIsWhole }
     ensures even { NodeHasNoOddClosed }
+{}
+
+/// The same plan, and the same promise, for the graph with the weights of a shot.
+pub fn weights_of_nodes()
+    ensures plan { PlanOfShotGraph }
+    ensures even { ShotHasNoOddClosed }
 {}
 
 /// The sub-problems of a fusion's two children share no real vertex, and no edge links them.

@@ -9,7 +9,7 @@ use Rattle.std.specs.List.{AllZip}
 use Rattle.fb_graph.specs.Parity.{is_in, is_odd_count}
 use Rattle.fb_graph.specs.Answers.{IsRight}
 use Rattle.fb_graph.specs.Certificate.{AreRising, total_value}
-use Rattle.fb_graph.specs.Limits.{problem_of}
+use Rattle.fb_graph.specs.ShotGraphs.{shot_problem}
 use Rattle.fb_graph.specs.Printed.{DifferAsSets, HasPositiveCuts, IsResorted, is_positive}
 use Rattle.fb_graph.specs.Dual.{Node, all_cuts}
 use Rattle.fb_graph.specs.Dual as dual
@@ -149,14 +149,14 @@ pub right_row : (w : PartValue) (nodes : List Node) (links : List (Option (List 
     → edges ≡ flat_map (λ id. map (λ s. s.edge) (walk_at links id)) list → cuts ≡ positive_cuts nodes
     → IsStrictlyIncreasing ones → ((test : ℕ → Bool) → is_odd_count test ones ≡ is_odd_count test edges)
     → HasPositiveCuts cuts printed → AreRising printed → cut_list ≡ cuts → weight ≡ total_value cut_list
-    → IsRight (problem_of w.job.graph (shot_of w)) (Best ones weight printed)
+    → IsRight (shot_problem w.job.graph (shot_of w)) (Best ones weight printed)
 right_row w nodes links ids list edges ones cuts printed cut_list weight part nested root matched n l e f walked c rising parity positive in_order same total =
     let whole : cuts ≡ positive_cuts w.nodes = c ∙ ap positive_cuts n in
     let edges_are : edges ≡ flat_map (λ id. map (λ s. s.edge) (walk_at w.links id)) (numbers_of w) =
     walked
     ∙ (ap (λ (k : List (Option (List Step))). flat_map (λ id. map (λ s. s.edge) (walk_at k id)) list) l
     ∙ ap (flat_map (λ id. map (λ s. s.edge) (walk_at w.links id))) (e ∙ f)) in
-    subst (λ (k : ℕ). IsRight (problem_of w.job.graph (shot_of w)) (Best ones k printed))
+    subst (λ (k : ℕ). IsRight (shot_problem w.job.graph (shot_of w)) (Best ones k printed))
     (sym (total ∙ (ap total_value (same ∙ whole) ∙ positive_total w.nodes)))
     (root_right opened_by_number w ones printed part nested root matched rising
     (λ k. parity (λ j. j == k) ∙ ap (is_odd_count (λ j. j == k)) edges_are)

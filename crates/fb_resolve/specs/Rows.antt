@@ -2,7 +2,7 @@
 use Rattle.std.specs.Prelude.{ℕ, ◌≡◌, ◌==◌, List, [], flat_map, map}
 use Rattle.std.specs.List.Sorted.{IsStrictlyIncreasing}
 use Rattle.fb_graph.specs.Parity.{is_odd_count}
-use Rattle.fb_graph.specs.Limits.{problem_of}
+use Rattle.fb_graph.specs.ShotGraphs.{shot_problem}
 use Rattle.fb_graph.specs.Answers.{IsRight}
 use Rattle.fb_graph.specs.Certificate.{AreRising, total_value}
 use Rattle.fb_graph.specs.Printed.{HasPositiveCuts}
@@ -26,4 +26,4 @@ RootIsRight = (w : PartValue) (edges : List ℕ) (cuts : List Cut) → IsPart w 
     → w.node ≡ root_of w.job.plan → w.matching.unmatched ≡ [] → IsStrictlyIncreasing edges
     → ((k : ℕ) → is_odd_count (λ j. j == k) edges ≡ is_odd_count (λ j. j == k) (walked_edges w))
     → HasPositiveCuts (all_cuts w.nodes) cuts → AreRising cuts
-    → IsRight (problem_of w.job.graph (shot_of w)) (Best edges (total_value (all_cuts w.nodes)) cuts)
+    → IsRight (shot_problem w.job.graph (shot_of w)) (Best edges (total_value (all_cuts w.nodes)) cuts)

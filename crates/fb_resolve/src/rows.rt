@@ -4,7 +4,7 @@ ghost use Rattle.std.specs.Prelude.{◌≡◌, ◌≤◌, ◌^◌, ◌++◌, tru
 ghost use Rattle.fb_graph.specs.Answers.{IsRight};
 ghost use Rattle.fb_graph.specs.Certificate.{total_value};
 ghost use Rattle.fb_graph.specs.Dual.{all_cuts};
-ghost use Rattle.fb_graph.specs.Limits.{problem_of};
+ghost use Rattle.fb_graph.specs.ShotGraphs.{shot_problem};
 ghost use Rattle.fb_links.specs.Table.{is_live, walk_at};
 ghost use Rattle.fb_plan.specs.Plans.{root_of};
 ghost use Rattle.fb_half.specs.Parts.{shot_of};
@@ -21,7 +21,7 @@ use std::alloc::Global;
 /// their vertices, of the layers that are printed and of the links' walks.
 pub fn resolve(alloc: Global, half: &Half) -> Result<Row, NoMemory>
     requires { half.now.node ≡ root_of half.now.job.plan }
-    ensures { IfOk result (IsRight (problem_of half.now.job.graph (shot_of half.now))) }
+    ensures { IfOk result (IsRight (shot_problem half.now.job.graph (shot_of half.now))) }
 {
     half.keeps();
     half.blossoms().keeps();

@@ -18,7 +18,7 @@ use Rattle.fb_shots_json.proofs.TextLemmas.{stays_json}
 use Rattle.fb_shots.specs.declared.answer.Kind.TheVariants as kind
 use Rattle.fb_request.specs.declared.format.Format.TheVariants.{Text01, B8, Dets, Hits, R8, Json}
 use Rattle.fb_shots.specs.Shots.{GoesOn}
-use Rattle.fb_shots.specs.Formats.{shot_of_detectors, shot_of_vertices, GoesOnAnywhere}
+use Rattle.fb_shots.specs.Formats.{shot_of_detectors, GoesOnAnywhere}
 
 -- records go on in other terms as they do in their own
 goes_on_as : {A B K L : Type 0} (shot_of : A → B) (say : K → L) (prefix all : Records A K) → GoesOn prefix all → GoesOn (records_as shot_of say prefix) (records_as shot_of say all)
@@ -48,6 +48,6 @@ goes_on_anywhere Hits g bytes more =
 goes_on_anywhere R8 g bytes more =
     let on = goes_on_r8 (length (detectors_of g)) bytes more in (goes_on_as (shot_of_detectors g) kind.Stim _ _ on.0, goes_on_as (shot_of_detectors g) kind.Stim _ _ on.1)
 goes_on_anywhere Json g bytes more = (
-  goes_on_as shot_of_vertices kind.Json _ _ (records_go_on (line_json g) begun_json (stays_json g) bytes more),
-  goes_on_as shot_of_vertices kind.Json _ _ (prefix_goes_on (line_json g) begun_json (stays_json g) bytes more),
+  goes_on_as (λ shot. shot) kind.Json _ _ (records_go_on (line_json g) begun_json (stays_json g) bytes more),
+  goes_on_as (λ shot. shot) kind.Json _ _ (prefix_goes_on (line_json g) begun_json (stays_json g) bytes more),
 )

@@ -1,3 +1,4 @@
+pub mod Lines
 pub mod Detectors
 pub mod GoingOn
 pub mod Readings

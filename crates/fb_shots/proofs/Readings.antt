@@ -15,7 +15,7 @@ use Rattle.fb_shots.specs.declared.answer.Kind.TheVariants as kind
 use Rattle.fb_request.specs.declared.format.Format.{Format}
 use Rattle.fb_request.specs.declared.format.Format.TheVariants as format
 use Rattle.fb_shots.specs.Shots.{refused, Shots, only, with_first_shot}
-use Rattle.fb_shots.specs.Formats.{shot_of_detectors, shot_of_vertices, of_stim, of_json, records_of, prefix_of}
+use Rattle.fb_shots.specs.Formats.{shot_of_detectors, of_stim, of_json, records_of, prefix_of}
 use Rattle.fb_shots.specs.InternalSources.{Source}
 use Rattle.fb_shots.specs.InternalAnswers.{Answers, answer_as, stim_answer, json_answer}
 use Rattle.fb_shots.proofs.Detectors.{vertices_are_shot}
@@ -34,22 +34,22 @@ stays_refused f g bytes more why e =
 -- ---- a reader, whatever its format
 
 -- bytes hold in the format what the reader's definitions say, in terms of shots and of refusals of this crate
-record IsFormat {K C : Type 0} (f : Format) (g : DecodingGraph) (shot_of : List ℕ → ShotValue) (say : K → Kind) (records prefix : C → List ℕ → Records (List ℕ) K) (c : C) : Type 0 where
+record IsFormat {A K C : Type 0} (f : Format) (g : DecodingGraph) (shot_of : A → ShotValue) (say : K → Kind) (records prefix : C → List ℕ → Records A K) (c : C) : Type 0 where
   all : (bytes : List ℕ) → records_of f g bytes ≡ records_as shot_of say (records c bytes)
   open_ : (bytes : List ℕ) → prefix_of f g bytes ≡ records_as shot_of say (prefix c bytes)
 
-reader_right : {K C : Type 0} (f : Format) (g : DecodingGraph) (shot_of : List ℕ → ShotValue) (say : K → Kind)
-    (records prefix : C → List ℕ → Records (List ℕ) K) (after : List ℕ → List ℕ) (old new : Reader C) (answer : Next (List ℕ) K)
-    → IsFormat f g shot_of say records prefix old.subject → IfShot (λ numbers. IsShot g (shot_of numbers)) answer
+reader_right : {A K C : Type 0} (f : Format) (g : DecodingGraph) (shot_of : A → ShotValue) (say : K → Kind)
+    (records prefix : C → List ℕ → Records A K) (after : List ℕ → List ℕ) (old new : Reader C) (answer : Next A K)
+    → IsFormat f g shot_of say records prefix old.subject → IfShot (λ given. IsShot g (shot_of given)) answer
     → read.Answers records prefix after old new answer → Answers (source f g old) (source f g new) (answer_as shot_of say answer)
-reader_right {K} {C} f g shot_of say records prefix after old new (next.Shot numbers) is shot h =
-    let view : Records (List ℕ) K → Shots = records_as shot_of say in
+reader_right {A} {K} {C} f g shot_of say records prefix after old new (next.Shot given) is shot h =
+    let view : Records A K → Shots = records_as shot_of say in
     let made : Bool → Source = λ b. record { format = f; graph = g; rest = new.rest; finished = b } in (
       record {
         shorter = h.0.shorter;
-        now = is.all old.rest ∙ ap view h.0.now ∙ ap (with_first_shot (shot_of numbers)) (sym (is.all new.rest));
-        later = λ still more. is.all (old.rest ++ more) ∙ ap view (h.0.later still more) ∙ ap (with_first_shot (shot_of numbers)) (sym (is.all (new.rest ++ more)));
-        onward = λ still more. is.open_ (old.rest ++ more) ∙ ap view (h.0.onward still more) ∙ ap (with_first_shot (shot_of numbers)) (sym (is.open_ (new.rest ++ more)));
+        now = is.all old.rest ∙ ap view h.0.now ∙ ap (with_first_shot (shot_of given)) (sym (is.all new.rest));
+        later = λ still more. is.all (old.rest ++ more) ∙ ap view (h.0.later still more) ∙ ap (with_first_shot (shot_of given)) (sym (is.all (new.rest ++ more)));
+        onward = λ still more. is.open_ (old.rest ++ more) ∙ ap view (h.0.onward still more) ∙ ap (with_first_shot (shot_of given)) (sym (is.open_ (new.rest ++ more)));
       },
       shot,
       ap made (ap (λ (r : Reader C). r.finished) h.1),
@@ -86,13 +86,13 @@ stim_right f g records prefix after old new answer rs fs n is h =
     reader_right f g (shot_of_detectors g) kind.Stim records prefix after old new answer
     (record { all = rs; open_ = fs }) (shot_if_detectors g old.subject answer n is) h
 
--- ---- the reader of vertices
+-- ---- the reader of JSON lines
 
-pub json_right : (g : DecodingGraph) (old new : Reader DecodingGraph) (answer : Next (List ℕ) JsonKind) → old.subject ≡ g
-    → IfShot (λ vertices. IsShot g (shot_of_vertices vertices)) answer → read.Answers records_json prefix_json after_record old new answer
+pub json_right : (g : DecodingGraph) (old new : Reader DecodingGraph) (answer : Next ShotValue JsonKind) → old.subject ≡ g
+    → IfShot (IsShot g) answer → read.Answers records_json prefix_json after_record old new answer
     → Answers (source format.Json g old) (source format.Json g new) (json_answer answer)
 json_right g old new answer same is h =
-    reader_right format.Json g shot_of_vertices kind.Json records_json prefix_json after_record old new answer
+    reader_right format.Json g (λ shot. shot) kind.Json records_json prefix_json after_record old new answer
     (record {
       all = λ bytes. ap (λ (x : DecodingGraph). of_json (records_json x bytes)) (sym same);
       open_ = λ bytes. ap (λ (x : DecodingGraph). of_json (prefix_json x bytes)) (sym same);

@@ -1,6 +1,6 @@
 -- What bytes hold in each format, as shots of a graph's vertices.
 use Rattle.std.specs.Prelude.{ℕ, List, ◌++◌, length, map, slice_index}
-use Rattle.fb_graph.specs.Limits.{DecodingGraph, ShotValue, detectors_of}
+use Rattle.fb_graph.specs.Limits.{DecodingGraph, ShotValue, detectors_of, plain_shot}
 use Rattle.fb_records.specs.Records.{Records, records_as}
 use Rattle.fb_shots_stim.specs.declared.answer.Kind.{Kind as StimKind}
 use Rattle.fb_shots_stim.specs.Text01.{records_01, prefix_01}
@@ -21,19 +21,15 @@ vertices_of g detectors = map (λ k. slice_index (detectors_of g) k) detectors
 
 -- the shot of detectors
 abbrev pub shot_of_detectors : DecodingGraph → List ℕ → ShotValue
-shot_of_detectors g detectors = record { defects = vertices_of g detectors }
-
--- the shot of vertices, which are its defects
-abbrev pub shot_of_vertices : List ℕ → ShotValue
-shot_of_vertices vertices = record { defects = vertices }
+shot_of_detectors g detectors = plain_shot (vertices_of g detectors)
 
 -- records of detectors, as shots
 abbrev pub of_stim : DecodingGraph → Records (List ℕ) StimKind → Shots
 of_stim g = records_as (shot_of_detectors g) kind.Stim
 
--- records of vertices, as shots
-abbrev pub of_json : Records (List ℕ) JsonKind → Shots
-of_json = records_as shot_of_vertices kind.Json
+-- records of JSON lines, whose shots are those of the graph's vertices already
+abbrev pub of_json : Records ShotValue JsonKind → Shots
+of_json = records_as (λ shot. shot) kind.Json
 
 -- what a whole input holds
 abbrev pub records_of : Format → DecodingGraph → List ℕ → Shots

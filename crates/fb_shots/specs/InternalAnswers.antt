@@ -8,7 +8,7 @@ use Rattle.fb_shots_json.specs.declared.answer.Kind.{Kind as JsonKind}
 use Rattle.fb_shots.specs.declared.answer.Kind.{Kind}
 use Rattle.fb_shots.specs.declared.answer.Kind.TheVariants as kind
 use Rattle.fb_shots.specs.Shots.{at_end, still_open, refused, Shots, only, with_first_shot}
-use Rattle.fb_shots.specs.Formats.{shot_of_detectors, shot_of_vertices, records_of, prefix_of}
+use Rattle.fb_shots.specs.Formats.{shot_of_detectors, records_of, prefix_of}
 use Rattle.fb_shots.specs.InternalSources.{Source}
 
 -- the result of a reader, as a shot of vertices
@@ -40,9 +40,9 @@ AnswersIn records prefix old new (Refused why) = Refuses records prefix old.fini
 abbrev pub Answers : Source → Source → NextShot → Type 0
 Answers old new answer = AnswersIn (records_of old.format old.graph) (prefix_of old.format old.graph) old new answer
 
--- the result of a format's reader: the shot that its numbers are, and the refusal as this crate's
-abbrev pub answer_as : {K : Type 0} → (List ℕ → ShotValue) → (K → Kind) → Next (List ℕ) K → NextShot
-answer_as shot_of say (Shot numbers) = Shot (shot_of numbers)
+-- the result of a format's reader: its shot as one of vertices, and the refusal as this crate's
+abbrev pub answer_as : {A K : Type 0} → (A → ShotValue) → (K → Kind) → Next A K → NextShot
+answer_as shot_of say (Shot shot) = Shot (shot_of shot)
 answer_as shot_of say NotYet = NotYet
 answer_as shot_of say End = End
 answer_as shot_of say (Refused why) = Refused (say why)
@@ -51,6 +51,6 @@ answer_as shot_of say (Refused why) = Refused (say why)
 abbrev pub stim_answer : DecodingGraph → Next (List ℕ) StimKind → NextShot
 stim_answer g = answer_as (shot_of_detectors g) kind.Stim
 
--- the result of a reader of vertices
-abbrev pub json_answer : Next (List ℕ) JsonKind → NextShot
-json_answer = answer_as shot_of_vertices kind.Json
+-- the result of the reader of JSON lines
+abbrev pub json_answer : Next ShotValue JsonKind → NextShot
+json_answer = answer_as (λ shot. shot) kind.Json

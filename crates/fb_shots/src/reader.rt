@@ -5,14 +5,13 @@ ghost use Rattle.fb_graph.specs.Limits.{detectors_of, IsShot};
 ghost use Rattle.fb_records.specs.Answers.{IfShot};
 ghost use Rattle.fb_shots_stim.specs.Shots.{IsShotOf};
 ghost use Rattle.fb_shots.specs.InternalAnswers.{Answers, stim_answer, json_answer};
-ghost use Rattle.fb_shots.specs.Formats.{shot_of_vertices};
 ghost use Rattle.fb_shots.specs.InternalReaders.{source_of, IsReaderOf};
 
 use crate::answer::{Format, Kind, NoMemory};
-use crate::mapping::shot_of_detectors;
+use crate::mapping::{shot_of_detectors, shot_of_line};
 use fb_graph::{Graph, Shot};
 use fb_records::{Next, Numbers};
-use fb_shots_json::RecordsJson;
+use fb_shots_json::{ListedShot, RecordsJson};
 use fb_shots_stim::{Records01, RecordsB8, RecordsDets, RecordsHits, RecordsR8};
 use std::alloc::Global;
 use std::marker::Model;
@@ -90,7 +89,7 @@ impl<'a> FormatReader<'a> {
             FormatReader::Dets(reader) => Ok(on_vertices(graph, reader.next()?)),
             FormatReader::Hits(reader) => Ok(on_vertices(graph, reader.next()?)),
             FormatReader::R8(reader) => Ok(on_vertices(graph, reader.next()?)),
-            FormatReader::Json(reader) => Ok(of_vertices(graph, reader.next()?)),
+            FormatReader::Json(reader) => Ok(of_lines(graph, reader.next()?)),
         }
     }
 }
@@ -108,13 +107,13 @@ fn on_vertices(graph: &Graph, answer: Next<Numbers, fb_shots_stim::Kind>) -> Nex
     }
 }
 
-/// The result of a reader of vertices.
-fn of_vertices(graph: &Graph, answer: Next<Numbers, fb_shots_json::Kind>) -> Next<Shot, Kind>
-    requires { IfShot (λ vertices. IsShot graph.now (shot_of_vertices vertices)) answer }
+/// The result of the reader of JSON lines.
+fn of_lines(graph: &Graph, answer: Next<ListedShot, fb_shots_json::Kind>) -> Next<Shot, Kind>
+    requires { IfShot (IsShot graph.now) answer }
     ensures { result ≡ json_answer answer }
 {
     match answer {
-        Next::Shot(vertices) => { Next::Shot(Shot::from_rising(graph, vertices.into_vec())) }
+        Next::Shot(listed) => Next::Shot(shot_of_line(graph, listed)),
         Next::NotYet => Next::NotYet,
         Next::End => Next::End,
         Next::Refused(kind) => Next::Refused(Kind::Json(kind)),

@@ -1,6 +1,6 @@
 -- The entries of a shot as defects: real vertices up to the first entry that is none, none of them twice.
 use Rattle.std.specs.Prelude.{nat_le, nat_lt, ◌==◌, ◌&&◌, not, All, count_by}
-use Rattle.std.proofs.Common.{◌≡◌, ℕ, ◌<◌, ◌≤◌, Bool, true, false, ◌||◌, eqb, List, [], ◌∷◌, ◌++◌, Some, None, Ok, Err, refl, sym, ap, subst, ◌∙◌, inl, inr, append_assoc, append-nil, arith}
+use Rattle.std.proofs.Common.{◌≡◌, ℕ, ◌<◌, ◌≤◌, Bool, true, false, ◌||◌, eqb, List, [], ◌∷◌, ◌++◌, length, Some, None, Ok, Err, refl, sym, ap, subst, ◌∙◌, inl, inr, append_assoc, append-nil, arith}
 use Rattle.std.specs.Ordering.{nat_cmp}
 use Rattle.std.specs.List.Sorted.{IsPermutation, IsSorted, IsStrictlyIncreasing}
 use Rattle.std.proofs.lemmas.Bool.{cases_Bool, cases_lt, eq-eqb, ne_eqb, leb-false, lt-ltb}
@@ -9,16 +9,17 @@ use Rattle.std.proofs.lemmas.List.Folds.{list_any-append}
 use Rattle.std.proofs.lemmas.List.Sums.{sum_by-cons}
 use Rattle.std.proofs.lemmas.List.Sorted.{All-permutation, sum_by-IsPermutation, list_any-IsPermutation}
 use Rattle.fb_graph.specs.Certificate.{AreDistinct}
-use Rattle.fb_graph.specs.Limits.{DecodingGraph, IsShot, is_real_in}
+use Rattle.fb_graph.specs.Limits.{DecodingGraph, IsShot, is_real_in, plain_shot}
 use Rattle.fb_graph.specs.Parity.{is_in}
 use Rattle.fb_graph.specs.Counts.{as_count}
 use Rattle.fb_graph.proofs.Ranges.{filter-range_below, filter-range_rises, is_in-filter-range, not_in_below}
 use Rattle.fb_graph.proofs.Sets.{count_equal-le, distinct_from_rising, is_in-cases, rising_same}
+use Rattle.fb_graph.proofs.ShotGraphs.{no_changes}
 use Rattle.fb_graph.proofs.Shots.{rising_from_sort}
 use Rattle.fb_shots_json.specs.declared.answer.Kind.{Kind}
 use Rattle.fb_shots_json.specs.declared.answer.Kind.TheVariants.{DefectOutOfRange, DefectOnVirtual, DefectRepeated}
-use Rattle.fb_shots_json.specs.TextJson.{defect_fault, defects_from, unless, rising}
-use Rattle.fb_shots_json.specs.InternalEntries.{vertex_fault, real_prefix, first_fault}
+use Rattle.fb_shots_json.specs.TextJson.{defect_fault, defects_from, first_fault, unless, rising}
+use Rattle.fb_shots_json.specs.InternalEntries.{vertex_fault, real_prefix}
 use Rattle.fb_graph.proofs.Members.{AreDistinct_push}
 
 -- ---- distinct numbers
@@ -77,7 +78,7 @@ judged g before v = elim (cases_Bool (nat_le g.vertices v)) [
 
 -- where no real vertex stands twice before the first entry that is none
 pub without_repeats : (g : DecodingGraph) (before vs : List ℕ) → AreDistinct (before ++ real_prefix g vs)
-    → defects_from g before vs ≡ unless (first_fault g vs) (Ok (before ++ vs))
+    → defects_from g before vs ≡ unless (first_fault (vertex_fault g) vs) (Ok (before ++ vs))
 without_repeats g before [] d = ap (λ (l : List ℕ). Ok l) (sym (append-nil before))
 without_repeats g before (v ∷ vs) d = elim (judged g before v) [
   | bad kind alone fault ↦ rw (alone, fault) refl
@@ -86,7 +87,7 @@ without_repeats g before (v ∷ vs) d = elim (judged g before v) [
       let prefix : AreDistinct (before ++ v ∷ real_prefix g vs) = rw alone at d in
       let next : AreDistinct ((before ++ v ∷ []) ++ real_prefix g vs) = subst AreDistinct (sym (append_assoc before (v ∷ []) (real_prefix g vs))) prefix in
       rw (alone, fault)
-      (without_repeats g (before ++ v ∷ []) vs next ∙ ap (λ (l : List ℕ). unless (first_fault g vs) (Ok l)) (append_assoc before (v ∷ []) vs))
+      (without_repeats g (before ++ v ∷ []) vs next ∙ ap (λ (l : List ℕ). unless (first_fault (vertex_fault g) vs) (Ok l)) (append_assoc before (v ∷ []) vs))
 ]
 
 -- where one does
@@ -102,7 +103,7 @@ with_repeats g before (v ∷ vs) d twice = elim (judged g before v) [
       (with_repeats g (before ++ v ∷ []) vs (AreDistinct_push before v d none) (λ (z : AreDistinct ((before ++ v ∷ []) ++ real_prefix g vs)). more (subst AreDistinct (append_assoc before (v ∷ []) (real_prefix g vs)) z)))
 ]
 
-prefix_whole : (g : DecodingGraph) (vs : List ℕ) → first_fault g vs ≡ None → real_prefix g vs ≡ vs
+prefix_whole : (g : DecodingGraph) (vs : List ℕ) → first_fault (vertex_fault g) vs ≡ None → real_prefix g vs ≡ vs
 prefix_whole g [] e = refl
 prefix_whole g (v ∷ vs) e = elim (judged g [] v) [
   | bad kind alone fault ↦ absurd (let some = rw alone at e in cc)
@@ -147,7 +148,7 @@ sorted_rises g listed sorted below permuted rises =
 
 -- ---- the whole list
 
-pub defects_good : (g : DecodingGraph) (vs sorted : List ℕ) → first_fault g vs ≡ None → IsPermutation (real_prefix g vs) sorted → IsStrictlyIncreasing sorted
+pub defects_good : (g : DecodingGraph) (vs sorted : List ℕ) → first_fault (vertex_fault g) vs ≡ None → IsPermutation (real_prefix g vs) sorted → IsStrictlyIncreasing sorted
     → (defects_from g [] vs ≡ Ok vs) × (sorted ≡ rising g vs)
 defects_good g vs sorted none permuted rises =
     let whole = prefix_whole g vs none in (
@@ -155,13 +156,14 @@ defects_good g vs sorted none permuted rises =
       subst (λ (l : List ℕ). sorted ≡ rising g l) whole (sorted_rises g (real_prefix g vs) sorted (prefix_below g vs) permuted rises),
     )
 
-pub defects_shot : (g : DecodingGraph) (vs sorted : List ℕ) → IsPermutation (real_prefix g vs) sorted → IsStrictlyIncreasing sorted → IsShot g (record { defects = sorted })
+pub defects_shot : (g : DecodingGraph) (vs sorted : List ℕ) → IsPermutation (real_prefix g vs) sorted → IsStrictlyIncreasing sorted → IsShot g (plain_shot sorted)
 defects_shot g vs sorted permuted rises = record {
   rising = rises;
   real = All-permutation (λ v. is_real_in g v ≡ true) (real_prefix g vs) sorted permuted (prefix_real g vs);
+  changes = no_changes (length g.edges);
 }
 
-pub defects_bad : (g : DecodingGraph) (vs sorted : List ℕ) (kind : Kind) → first_fault g vs ≡ Some kind → IsPermutation (real_prefix g vs) sorted → IsStrictlyIncreasing sorted
+pub defects_bad : (g : DecodingGraph) (vs sorted : List ℕ) (kind : Kind) → first_fault (vertex_fault g) vs ≡ Some kind → IsPermutation (real_prefix g vs) sorted → IsStrictlyIncreasing sorted
     → defects_from g [] vs ≡ Err kind
 defects_bad g vs sorted kind some permuted rises =
     without_repeats g [] vs (distinct_from_sorted (real_prefix g vs) sorted permuted rises) ∙ ap (λ o. unless o (Ok vs)) some

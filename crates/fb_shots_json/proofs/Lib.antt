@@ -1,5 +1,7 @@
 pub mod Defects
+pub mod Pairs
+pub mod JudgedChanges
+pub mod LastChanges
 pub mod TextLemmas
 pub mod PlaceLemmas
-pub mod Members
 pub mod FirstRecords

@@ -3,7 +3,7 @@ use Rattle.std.proofs.Common.{◌≡◌, ℕ, ◌+◌, ◌<◌, ◌≤◌, Bool,
 use Rattle.std.proofs.lemmas.Bool.{cases_lt}
 use Rattle.std.proofs.lemmas.List.{append-nil, take-append-drop, drop_all, drop_more}
 use Rattle.std.proofs.lemmas.List.Folds.{list_all-append}
-use Rattle.fb_graph.specs.Limits.{DecodingGraph}
+use Rattle.fb_graph.specs.Limits.{DecodingGraph, ShotValue}
 use Rattle.fb_shots_json.specs.declared.answer.Kind.{Kind}
 use Rattle.fb_shots_json.specs.declared.answer.Kind.TheVariants.{LineTooLong}
 use Rattle.fb_records.specs.declared.answer.Next.TheVariants.{Shot, NotYet, End, Refused}
@@ -75,12 +75,12 @@ place_newline g bytes line seen p lt newline =
 
 -- ---- answers
 
-pub place_shot : (g : DecodingGraph) (bytes : List ℕ) (line seen : ℕ) (finished : Bool) (shot : List ℕ) → IsPlace g bytes line seen false → seen < length bytes → get_or bytes seen 0 ≡ 10
+pub place_shot : (g : DecodingGraph) (bytes : List ℕ) (line seen : ℕ) (finished : Bool) (shot : ShotValue) → IsPlace g bytes line seen false → seen < length bytes → get_or bytes seen 0 ≡ 10
     → shot_of_line g (part_of bytes line seen) ≡ Ok shot → AnswersJson g bytes finished (drop (seen + 1) bytes) (Shot shot)
 place_shot g bytes line seen finished shot p lt newline e =
     text.newline_shot g (take line bytes) (part_of bytes line seen) (drop (seen + 1) bytes) shot bytes finished p.parts (sym p.blank_so_far) e (newline_cut g bytes line seen false p lt newline)
 
-pub place_last_shot : (g : DecodingGraph) (bytes : List ℕ) (line seen : ℕ) (finished : Bool) (shot : List ℕ) → IsPlace g bytes line seen false → seen ≡ length bytes → finished ≡ true
+pub place_last_shot : (g : DecodingGraph) (bytes : List ℕ) (line seen : ℕ) (finished : Bool) (shot : ShotValue) → IsPlace g bytes line seen false → seen ≡ length bytes → finished ≡ true
     → shot_of_line g (part_of bytes line seen) ≡ Ok shot → AnswersJson g bytes finished (drop seen bytes) (Shot shot)
 place_last_shot g bytes line seen finished shot p all done e =
     subst (λ (l : List ℕ). AnswersJson g bytes finished l (Shot shot)) (sym (drop_all seen bytes (omega arith)))

@@ -4,7 +4,7 @@ use Rattle.std.proofs.Common.{◌≡◌, ℕ, ◌<◌, Bool, true, false, ◌&&�
 use Rattle.std.proofs.lemmas.Bool.{cases_Bool, ltb-true, lt-ltb}
 use Rattle.std.proofs.lemmas.List.{length-append}
 use Rattle.std.proofs.lemmas.List.Folds.{list_all-append}
-use Rattle.fb_graph.specs.Limits.{DecodingGraph}
+use Rattle.fb_graph.specs.Limits.{DecodingGraph, ShotValue}
 use Rattle.fb_shots_json.specs.declared.answer.Kind.{Kind}
 use Rattle.fb_shots_json.specs.declared.answer.Kind.TheVariants.{LineTooLong}
 use Rattle.fb_records.specs.declared.answer.Next.TheVariants.{Shot, NotYet, End, Refused}
@@ -97,11 +97,11 @@ newline_refused g skipped line tail kind rest finished at some e cut =
     let given : line_json g line ≡ Err kind = some_line g line some ∙ ap as_shot e in (
       skip_refuses (records_json g) (prefix_json g) after_record skipped here (reader g rest finished) kind at.skips cut
           (refuses_prefix (line_json g) begun_json (stays_json g) (reader g here finished) kind
-          (prefix_one (line_json g) begun_json line tail at.one_line ∙ ap (λ (r : Judged (List ℕ) Kind). with_line r (prefix_json g tail)) given)),
+          (prefix_one (line_json g) begun_json line tail at.one_line ∙ ap (λ (r : Judged ShotValue Kind). with_line r (prefix_json g tail)) given)),
       refl,
     )
 
-pub newline_shot : (g : DecodingGraph) (skipped line tail shot rest : List ℕ) (finished : Bool) → IsAt g skipped line → is_blank line ≡ false
+pub newline_shot : (g : DecodingGraph) (skipped line tail : List ℕ) (shot : ShotValue) (rest : List ℕ) (finished : Bool) → IsAt g skipped line → is_blank line ≡ false
     → shot_of_line g line ≡ Ok shot → rest ≡ skipped ++ (line ++ 10 ∷ tail) → AnswersJson g rest finished tail (Shot shot)
 newline_shot g skipped line tail shot rest finished at some e cut =
     let here = line ++ 10 ∷ tail in
@@ -150,7 +150,7 @@ pub end_nothing : (g : DecodingGraph) (skipped line rest : List ℕ) (finished :
 end_nothing g skipped line rest finished at done blank cut =
     (done, ap (records_json g) cut ∙ at.skips.whole line ∙ records_end (line_json g) line (Ok None) refl at.one_line (blank_line g line blank), refl)
 
-last_gives : (g : DecodingGraph) (line shot : List ℕ) (finished : Bool) → finished ≡ true → holds 10 line ≡ false → is_blank line ≡ false → line_json g line ≡ Ok (Some shot)
+last_gives : (g : DecodingGraph) (line : List ℕ) (shot : ShotValue) (finished : Bool) → finished ≡ true → holds 10 line ≡ false → is_blank line ≡ false → line_json g line ≡ Ok (Some shot)
     → Gives (records_json g) (prefix_json g) (reader g line finished) (reader g [] finished) shot
 last_gives g [] shot finished done h some e = absurd cc
 last_gives g (b ∷ line) shot finished done h some e = gives_last (line_json g) begun_json (reader g (b ∷ line) finished) (reader g [] finished) b line shot done refl refl h e
@@ -159,7 +159,7 @@ after_last : (line : List ℕ) → holds 10 line ≡ false → is_blank line ≡
 after_last [] h some = absurd cc
 after_last (b ∷ line) h some = last_after is_blank b line h some
 
-pub end_shot : (g : DecodingGraph) (skipped line shot rest : List ℕ) (finished : Bool) → IsAt g skipped line → finished ≡ true → is_blank line ≡ false
+pub end_shot : (g : DecodingGraph) (skipped line : List ℕ) (shot : ShotValue) (rest : List ℕ) (finished : Bool) → IsAt g skipped line → finished ≡ true → is_blank line ≡ false
     → shot_of_line g line ≡ Ok shot → rest ≡ skipped ++ line → AnswersJson g rest finished [] (Shot shot)
 end_shot g skipped line shot rest finished at done some e cut = (
   skip_gives (records_json g) (prefix_json g) after_record skipped line (reader g rest finished) (reader g [] finished) shot at.skips cut

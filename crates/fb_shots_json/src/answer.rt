@@ -18,8 +18,17 @@ pub enum Kind {
     DefectOnVirtual,
     /// A defect is listed twice.
     DefectRepeated,
-    /// The value has `erasures` or `dynamic_weights` that is neither null nor an empty list.
-    ErasureNotTaken,
+    /// `erasures` is neither null nor a list of whole numbers of at least 0, or `dynamic_weights` is neither null nor a
+    /// list of pairs of whole numbers, the first of at least 0.
+    NotChanges,
+    /// An edge that is erased or gets a weight isn't below the number of edges.
+    ShotEdgeOutOfRange,
+    /// The weight that an edge gets is odd.
+    OddShotWeight,
+    /// The weight that an edge gets is above 1,073,741,824.
+    ShotWeightTooLarge,
+    /// The weight that an edge gets is below 0.
+    NegativeShotWeight,
 }
 
 impl Kind {
@@ -34,7 +43,11 @@ impl Kind {
             Kind::DefectOutOfRange => "DefectOutOfRange",
             Kind::DefectOnVirtual => "DefectOnVirtual",
             Kind::DefectRepeated => "DefectRepeated",
-            Kind::ErasureNotTaken => "ErasureNotTaken",
+            Kind::NotChanges => "NotChanges",
+            Kind::ShotEdgeOutOfRange => "ShotEdgeOutOfRange",
+            Kind::OddShotWeight => "OddShotWeight",
+            Kind::ShotWeightTooLarge => "ShotWeightTooLarge",
+            Kind::NegativeShotWeight => "NegativeShotWeight",
         }
     }
 }

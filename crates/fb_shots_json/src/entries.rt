@@ -2,10 +2,11 @@
 
 ghost use Rattle.std.specs.Prelude.{◌≡◌, ◌<◌, ◌^◌, ◌↔◌, [], IsTrue, None, IfOk, IfErr, OnOk, Ok, Err, option_map};
 ghost use Rattle.std.specs.List.Sorted.{IsStrictlyIncreasing};
-ghost use Rattle.fb_graph.specs.Limits.{IsShot};
+ghost use Rattle.fb_graph.specs.Limits.{IsShot, plain_shot};
 ghost use Rattle.serde_json.specs.View.{view, items_view};
-ghost use Rattle.fb_shots_json.specs.TextJson.{naturals_of, defects_from, rising};
-ghost use Rattle.fb_shots_json.specs.InternalEntries.{vertex_fault, real_prefix, first_fault};
+ghost use Rattle.fb_shots_json.specs.TextJson.{each_of, first_fault, defects_from, rising};
+ghost use Rattle.fb_shots_json.specs.InternalEntries.{vertex_fault, real_prefix};
+ghost use Rattle.fb_json.specs.JsonText.{natural_of};
 ghost use Rattle.fb_records.specs.Steps.{IfRefused};
 
 use crate::answer::Kind;
@@ -16,7 +17,7 @@ use std::alloc::Global;
 
 /// The entries of a list, if all are whole numbers of at least 0.
 pub fn naturals(alloc: Global, values: &[Value]) -> Result<Option<Vec<u64>>, NoMemory>
-    ensures { IfOk result (λ found. option_map (λ v. v.items) found ≡ naturals_of (items_view values.now)) }
+    ensures { IfOk result (λ found. option_map (λ v. v.items) found ≡ each_of natural_of (items_view values.now)) }
 {
     let mut found = Vec::with_capacity(alloc, values.len())?;
     for value in values {
@@ -49,7 +50,7 @@ fn real_prefix(
     listed: &[u64],
 ) -> Result<(Vec<u32>, Option<Kind>), NoMemory>
     ensures prefix { IfOk result (λ r. r.0.items ≡ real_prefix graph.now listed.now) }
-    ensures fault { IfOk result (λ r. r.1 ≡ first_fault graph.now listed.now) }
+    ensures fault { IfOk result (λ r. r.1 ≡ first_fault (vertex_fault graph.now) listed.now) }
 {
     let mut found = Vec::with_capacity(alloc, listed.len())?;
     for entry in listed {
@@ -73,7 +74,7 @@ fn is_rising(numbers: &[u32]) -> bool
 pub fn defects(alloc: Global, graph: &Graph, listed: &[u64]) -> Result<Vec<u32>, Stop<Kind>>
     ensures ok { OnOk result (defects_from graph.now [] listed.now ≡ Ok listed.now) }
     ensures rising { IfOk result (λ v. v.items ≡ rising graph.now listed.now) }
-    ensures shot { IfOk result (λ v. IsShot graph.now (record { defects = v.items })) }
+    ensures shot { IfOk result (λ v. IsShot graph.now (plain_shot v.items)) }
     ensures refused { IfErr result (IfRefused (λ kind. defects_from graph.now [] listed.now ≡ Err kind)) }
 {
     let (mut found, fault) = real_prefix(alloc, graph, listed)?;

@@ -3,11 +3,14 @@
 #![tactic(auto)]
 
 mod answer;
+mod changes;
 mod entries;
 mod judging;
 mod laws;
 mod reader;
+mod shot;
 
 pub use answer::Kind;
 pub use laws::goes_on_json;
 pub use reader::RecordsJson;
+pub use shot::ListedShot;

@@ -12,13 +12,15 @@ ghost use Rattle.fb_shots_json.specs.InternalAnswers.{AnswersJson};
 
 use crate::answer::Kind;
 use crate::judging::{is_too_long, shot_of_line};
+use crate::shot::ListedShot;
 use fb_graph::Graph;
-use fb_records::{Found, Next, NoMemory, Numbers, Pending, Stop};
+use fb_records::{Found, Next, NoMemory, Pending, Stop};
 use std::alloc::Global;
 use std::marker::Model;
 
-/// A reader of shots as JSON values, one to a line: objects whose `defect_vertices` lists the defects. Contracts see
-/// the graph, the bytes fed that no result has used, and whether they are all.
+/// A reader of shots as JSON values, one to a line: objects whose `defect_vertices` lists the defects, and whose
+/// `erasures` and `dynamic_weights` list the edges that weigh otherwise than in the graph. Contracts see the graph, the
+/// bytes fed that no result has used, and whether they are all.
 #[derive(Drop)]
 pub struct RecordsJson<'a> {
     alloc: Global,
@@ -83,12 +85,12 @@ impl<'a> RecordsJson<'a> {
 
     /// Reads the first record of the bytes that no result has used. A shot uses up its line and the blank lines
     /// before it, and nothing else uses any byte.
-    pub fn next(&mut self) -> Result<Next<Numbers, Kind>, NoMemory>
+    pub fn next(&mut self) -> Result<Next<ListedShot, Kind>, NoMemory>
         ensures answer { IfOk result (λ a. a ≡ answer_of (reading records_json prefix_json self.old)) }
         ensures meaning { IfOk result (Answers records_json prefix_json after_record self.old self.new) }
         ensures graph { self.new.subject ≡ self.old.subject }
         ensures finished { self.new.finished ≡ self.old.finished }
-        ensures shot { IfOk result (IfShot (λ shot. IsShot self.old.subject (record { defects = shot }))) }
+        ensures shot { IfOk result (IfShot (IsShot self.old.subject)) }
         ensures err { OnErr result (self.new ≡ self.old) }
     {
         let rest = self.pending.as_slice();
@@ -118,12 +120,12 @@ fn advance(
     place: &mut Place,
     rest: &[u8],
     finished: bool,
-) -> Result<Found<Numbers>, Stop<Kind>>
+) -> Result<Found<ListedShot>, Stop<Kind>>
     requires { IsPlace graph.now rest.now place.old.line place.old.seen place.old.is_blank }
     ensures ok { IfOk result (λ found. AnswersJson graph.now rest.now finished (drop (used_of found) rest.now) (answer_at found)
         × IsPlace graph.now (drop (used_of found) rest.now) place.new.line place.new.seen place.new.is_blank) }
     ensures used { IfOk result (λ found. used_of found ≤ length rest.now) }
-    ensures shot { IfOk result (IfFound (λ shot. IsShot graph.now (record { defects = shot }))) }
+    ensures shot { IfOk result (IfFound (IsShot graph.now)) }
     ensures refused { IfErr result (IfRefused (λ kind. AnswersJson graph.now rest.now finished rest.now (next.Refused kind))) }
     ensures err { OnErr result (IsPlace graph.now rest.now place.new.line place.new.seen place.new.is_blank) }
 {

@@ -1,5 +1,5 @@
 -- A row has the verdict `Good` just where it is right.
-use Rattle.std.proofs.Common.{ℕ, ◌+◌, ◌≤◌, ◌≡◌, ◌≢◌, ◌==◌, ◌&&◌, ◌↔◌, inl, inr, not, nat_lt, cond, Bool, true, false, List, [], ◌∷◌, length, get_or, All, Option, Some, None, Result, Ok, Err, IfOk, refl, sym, ap, subst, ◌∙◌, arith}
+use Rattle.std.proofs.Common.{ℕ, ◌+◌, ◌<◌, ◌≤◌, ◌≡◌, ◌≢◌, ◌==◌, ◌&&◌, ◌↔◌, inl, inr, not, nat_lt, cond, Bool, true, false, List, [], ◌∷◌, length, get_or, All, Option, Some, None, Result, Ok, Err, IfOk, refl, sym, ap, subst, ◌∙◌, arith}
 use Rattle.std.proofs.Math.Bool.{and-false}
 use Rattle.std.specs.List.{find}
 use Rattle.std.specs.Option.{option_map, option_or, is_some, unwrap_or}
@@ -13,6 +13,7 @@ use Rattle.fb_graph.specs.Answers.{IsRight}
 use Rattle.fb_graph.specs.Certificate.{AreRising, Fits, IsBefore, IsBest, IsOddCut, IsPrintedCut, load_of, total_value}
 use Rattle.fb_graph.specs.Components.{IsFirstOdd}
 use Rattle.fb_graph.specs.Limits.{DecodingGraph, ShotValue, is_real_in, problem_of}
+use Rattle.fb_graph.specs.ShotGraphs.{shot_graph, shot_problem}
 use Rattle.fb_graph.specs.Parity.{differ, is_in, is_odd_count}
 use Rattle.fb_graph.specs.Problem.{Problem, Flips, edge_at, no_edge, touches, weight_of}
 use Rattle.fb_graph.specs.declared.parts.Cut.{Cut}
@@ -22,6 +23,7 @@ use Rattle.fb_graph.proofs.Duality.{least_weight}
 use Rattle.fb_graph.proofs.OddComponents.{best_has_no_odd, no_correction}
 use Rattle.fb_graph.proofs.ParitySums.{differ_self, same_from_differ}
 use Rattle.fb_graph.proofs.Leasts.{least_none, least_failed}
+use Rattle.fb_graph.proofs.ShotGraphs.{length_changed, same_first_odd, same_flips}
 use Rattle.fb_verify.specs.Verdicts.{HasPositiveValues, IsLeastWeight, IsOddVerdict, IsVerdict, best_fault, cut_fault, cuts_fault, fault_of_two, fault_if, first_beyond, first_fall, has_wrong_parity, is_overloaded}
 use Rattle.fb_graph.specs.Leasts.{least}
 use Rattle.fb_verify.specs.declared.verdicts.Verdict.{Verdict}
@@ -36,9 +38,9 @@ best_bad g shot edges weight cuts =
     or_bad (option_map EdgeOutOfRange (first_beyond (length g.edges) edges)) _ (map_bad EdgeOutOfRange (λ k e. cc) (first_beyond (length g.edges) edges))
     (or_bad (option_map EdgesNotRising (first_fall edges)) _ (map_bad EdgesNotRising (λ k e. cc) (first_fall edges))
     (or_bad (option_map WrongParity (least g.vertices (has_wrong_parity (problem_of g shot) edges))) _ (map_bad WrongParity (λ k e. cc) (least g.vertices (has_wrong_parity (problem_of g shot) edges)))
-    (or_bad (fault_of_two WeightNotSum weight (weight_of (problem_of g shot) edges)) _ (two_bad WeightNotSum (λ a b e. cc) weight (weight_of (problem_of g shot) edges))
+    (or_bad (fault_of_two WeightNotSum weight (weight_of (shot_problem g shot) edges)) _ (two_bad WeightNotSum (λ a b e. cc) weight (weight_of (shot_problem g shot) edges))
     (or_bad (cuts_fault g shot 0 [] cuts) _ (cuts_bad g shot 0 [] cuts)
-    (or_bad (option_map Overloaded (least (length g.edges) (is_overloaded (problem_of g shot) cuts))) _ (map_bad Overloaded (λ k e. cc) (least (length g.edges) (is_overloaded (problem_of g shot) cuts)))
+    (or_bad (option_map Overloaded (least (length g.edges) (is_overloaded (shot_problem g shot) cuts))) _ (map_bad Overloaded (λ k e. cc) (least (length g.edges) (is_overloaded (shot_problem g shot) cuts)))
     (or_bad (fault_of_two SumDiffers weight (total_value cuts)) None (two_bad SumDiffers (λ a b e. cc) weight (total_value cuts)) (λ e. cc)))))))
 
 none_from_good : (o : Option Verdict) → o ≢ Some Good → unwrap_or o Good ≡ Good → o ≡ None
@@ -66,43 +68,53 @@ none-from_flips g shot edges flips =
         ∙ (ap (λ x. is_real_in g v && x) (differ_self (is_in shot.defects v)) ∙ and-false (is_real_in g v))
     step v false e = ap (λ x. x && differ (is_odd_count (λ k. touches v (edge_at g.edges k)) edges) (is_in shot.defects v)) e
 
-fits-from_none : (g : DecodingGraph) (shot : ShotValue) (cuts : List Cut) → least (length g.edges) (is_overloaded (problem_of g shot) cuts) ≡ None
-    → Fits (problem_of g shot) cuts
-fits-from_none g shot cuts none k d less =
-    subst (λ e. load_of cuts e ≤ e.weight) (get_or_default g.edges k no_edge d less)
-    (ltb-false (edge_at g.edges k).weight (load_of cuts (edge_at g.edges k)) (least_failed (length g.edges) (is_overloaded (problem_of g shot) cuts) none k less))
+-- the graph and its view by a shot have as many edges
+same_count : (g : DecodingGraph) (shot : ShotValue) → length (shot_graph g shot).edges ≡ length g.edges
+same_count g shot = length_changed shot.changes g.edges
 
-none-from_fits : (g : DecodingGraph) (shot : ShotValue) (cuts : List Cut) → Fits (problem_of g shot) cuts
-    → least (length g.edges) (is_overloaded (problem_of g shot) cuts) ≡ None
+fits-from_none : (g : DecodingGraph) (shot : ShotValue) (cuts : List Cut) → least (length g.edges) (is_overloaded (shot_problem g shot) cuts) ≡ None
+    → Fits (shot_problem g shot) cuts
+fits-from_none g shot cuts none k d less =
+    let edges = (shot_graph g shot).edges in
+    subst (λ e. load_of cuts e ≤ e.weight) (get_or_default edges k no_edge d less)
+    (ltb-false (edge_at edges k).weight (load_of cuts (edge_at edges k))
+    (least_failed (length g.edges) (is_overloaded (shot_problem g shot) cuts) none k (subst (λ n. k < n) (same_count g shot) less)))
+
+none-from_fits : (g : DecodingGraph) (shot : ShotValue) (cuts : List Cut) → Fits (shot_problem g shot) cuts
+    → least (length g.edges) (is_overloaded (shot_problem g shot) cuts) ≡ None
 none-from_fits g shot cuts fits =
-    least_none (length g.edges) (is_overloaded (problem_of g shot) cuts)
-    (λ k less. le-ltb (edge_at g.edges k).weight (load_of cuts (edge_at g.edges k)) (fits k no_edge less))
+    let edges = (shot_graph g shot).edges in
+    least_none (length g.edges) (is_overloaded (shot_problem g shot) cuts)
+    (λ k less. le-ltb (edge_at edges k).weight (load_of cuts (edge_at edges k))
+    (fits k no_edge (subst (λ n. k < n) (sym (same_count g shot)) less)))
 
 best-from_none : (g : DecodingGraph) (shot : ShotValue) (edges : List ℕ) (weight : ℕ) (cuts : List Cut) → All (λ c. 1 ≤ c.value) cuts
-    → best_fault g shot edges weight cuts ≡ None → IsBest (problem_of g shot) edges weight cuts
+    → best_fault g shot edges weight cuts ≡ None → IsBest (shot_problem g shot) edges weight cuts
 best-from_none g shot edges weight cuts positive none =
     let (beyond, rest) = or_none (option_map EdgeOutOfRange (first_beyond (length g.edges) edges)) _ none in
     let (fall, rest_2) = or_none (option_map EdgesNotRising (first_fall edges)) _ rest in
     let (wrong, rest_3) = or_none (option_map WrongParity (least g.vertices (has_wrong_parity (problem_of g shot) edges))) _ rest_2 in
-    let (sum, rest_4) = or_none (fault_of_two WeightNotSum weight (weight_of (problem_of g shot) edges)) _ rest_3 in
+    let (sum, rest_4) = or_none (fault_of_two WeightNotSum weight (weight_of (shot_problem g shot) edges)) _ rest_3 in
     let (faulty, rest_5) = or_none (cuts_fault g shot 0 [] cuts) _ rest_4 in
-    let (over, rest_6) = or_none (option_map Overloaded (least (length g.edges) (is_overloaded (problem_of g shot) cuts))) _ rest_5 in
+    let (over, rest_6) = or_none (option_map Overloaded (least (length g.edges) (is_overloaded (shot_problem g shot) cuts))) _ rest_5 in
     let (total, rest_7) = or_none (fault_of_two SumDiffers weight (total_value cuts)) None rest_6 in
     let (listed, rising) = cuts-from_none g shot 0 [] cuts faulty in
     record {
       edge_set = record {
         rising = rising-from_fall edges (map_none EdgesNotRising (first_fall edges) fall);
-        within = below-from_beyond (length g.edges) edges (map_none EdgeOutOfRange (first_beyond (length g.edges) edges) beyond);
+        within = subst (λ n. All (λ k. k < n) edges) (sym (same_count g shot))
+            (below-from_beyond (length g.edges) edges (map_none EdgeOutOfRange (first_beyond (length g.edges) edges) beyond));
       };
-      flips = flips-from_none g shot edges (map_none WrongParity (least g.vertices (has_wrong_parity (problem_of g shot) edges)) wrong);
-      weighs = two_none WeightNotSum weight (weight_of (problem_of g shot) edges) sum;
+      flips = (same_flips g shot edges).0
+          (flips-from_none g shot edges (map_none WrongParity (least g.vertices (has_wrong_parity (problem_of g shot) edges)) wrong));
+      weighs = two_none WeightNotSum weight (weight_of (shot_problem g shot) edges) sum;
       printed = λ k d less. record {
         odd = (listed k d less).odd;
         positive = positive k d less;
         rising = (listed k d less).rising;
       };
       rising = rising.1;
-      fits = fits-from_none g shot cuts (map_none Overloaded (least (length g.edges) (is_overloaded (problem_of g shot) cuts)) over);
+      fits = fits-from_none g shot cuts (map_none Overloaded (least (length g.edges) (is_overloaded (shot_problem g shot) cuts)) over);
       total = two_none SumDiffers weight (total_value cuts) total;
     }
 
@@ -122,10 +134,10 @@ virtual-from_real true true e = absurd (false≢true e)
 virtual-from_real true false e = refl
 virtual-from_real false b e = absurd (false≢true e)
 
-none-from_cut : (g : DecodingGraph) (shot : ShotValue) (j : ℕ) (before : List ℕ) (c : Cut) → IsPrintedCut (problem_of g shot) c
+none-from_cut : (g : DecodingGraph) (shot : ShotValue) (j : ℕ) (before : List ℕ) (c : Cut) → IsPrintedCut (shot_problem g shot) c
     → slice_cmp nat_cmp before c.vertices ≡ Less → cut_fault g shot j before c.vertices ≡ None
 none-from_cut g shot j before c printed order =
-    let empty = not_empty (problem_of g shot) c printed.odd in
+    let empty = not_empty (shot_problem g shot) c printed.odd in
     let beyond = beyond-from_below g.vertices c.vertices (λ k d less. real-below g (get_or c.vertices k d) (printed.odd.real k d less)) in
     let fall = fall-from_rising c.vertices printed.rising in
     let virtual = none-from_all (is_in g.virtuals) c.vertices
@@ -147,12 +159,12 @@ none-from_cut g shot j before c printed order =
     none_of_six false false true true None (Some k) e f h i u v = cc
 
 none-from_cuts : (g : DecodingGraph) (shot : ShotValue) (j : ℕ) (before : List ℕ) (cuts : List Cut)
-    → All (IsPrintedCut (problem_of g shot)) cuts → AreRising (as_cut before ∷ cuts) → cuts_fault g shot j before cuts ≡ None
+    → All (IsPrintedCut (shot_problem g shot)) cuts → AreRising (as_cut before ∷ cuts) → cuts_fault g shot j before cuts ≡ None
 none-from_cuts g shot j before [] printed rising = refl
 none-from_cuts g shot j before (c ∷ cs) printed rising =
     ap (λ o. option_or o (cuts_fault g shot (j + 1) c.vertices cs))
-    (none-from_cut g shot j before c (All-head (IsPrintedCut (problem_of g shot)) c cs printed) rising.0)
-    ∙ none-from_cuts g shot (j + 1) c.vertices cs (All-tail (IsPrintedCut (problem_of g shot)) c cs printed)
+    (none-from_cut g shot j before c (All-head (IsPrintedCut (shot_problem g shot)) c cs printed) rising.0)
+    ∙ none-from_cuts g shot (j + 1) c.vertices cs (All-tail (IsPrintedCut (shot_problem g shot)) c cs printed)
     (before_same c (as_cut c.vertices) refl cs rising.1.0, rising.1.1)
 
 before_nothing : (p : Problem) (cuts : List Cut) → All (IsPrintedCut p) cuts → IsBefore (as_cut []) cuts
@@ -164,14 +176,15 @@ before_nothing p (c ∷ cs) printed = step c.vertices (All-head (IsPrintedCut p)
     step (v ∷ vs) e = refl
 
 none-from_best : (g : DecodingGraph) (shot : ShotValue) (edges : List ℕ) (weight : ℕ) (cuts : List Cut)
-    → IsBest (problem_of g shot) edges weight cuts → best_fault g shot edges weight cuts ≡ None
+    → IsBest (shot_problem g shot) edges weight cuts → best_fault g shot edges weight cuts ≡ None
 none-from_best g shot edges weight cuts best =
     none_of_seven _ _ _ _ _ _ _
-    (ap (option_map EdgeOutOfRange) (beyond-from_below (length g.edges) edges best.edge_set.within))
+    (ap (option_map EdgeOutOfRange) (beyond-from_below (length g.edges) edges
+    (subst (λ n. All (λ k. k < n) edges) (same_count g shot) best.edge_set.within)))
     (ap (option_map EdgesNotRising) (fall-from_rising edges best.edge_set.rising))
-    (ap (option_map WrongParity) (none-from_flips g shot edges best.flips))
-    (two-same WeightNotSum weight (weight_of (problem_of g shot) edges) best.weighs)
-    (none-from_cuts g shot 0 [] cuts best.printed (before_nothing (problem_of g shot) cuts best.printed, best.rising))
+    (ap (option_map WrongParity) (none-from_flips g shot edges ((same_flips g shot edges).1 best.flips)))
+    (two-same WeightNotSum weight (weight_of (shot_problem g shot) edges) best.weighs)
+    (none-from_cuts g shot 0 [] cuts best.printed (before_nothing (shot_problem g shot) cuts best.printed, best.rising))
     (ap (option_map Overloaded) (none-from_fits g shot cuts best.fits))
     (two-same SumDiffers weight (total_value cuts) best.total)
   where
@@ -197,32 +210,32 @@ odd_wrong g shot v first odd other =
     inr (λ f. other (first_odd_once (problem_of g shot) first (Some v) odd f), refl)
 
 pub right-from_good : (g : DecodingGraph) (shot : ShotValue) (row : Row) (v : Verdict) → HasPositiveValues row
-    → IsVerdict g shot row v → v ≡ Good → IsRight (problem_of g shot) row
+    → IsVerdict g shot row v → v ≡ Good → IsRight (shot_problem g shot) row
 right-from_good g shot (Best edges weight cuts) v positive is good =
     let best = best-from_none g shot edges weight cuts positive
     (none_from_good (best_fault g shot edges weight cuts) (best_bad g shot edges weight cuts) (sym is ∙ good)) in
-    (best_has_no_odd (problem_of g shot) edges weight cuts best, best)
-right-from_good g shot (Odd u) v positive (inl (first, is)) good = first
+    (best_has_no_odd (shot_problem g shot) edges weight cuts best, best)
+right-from_good g shot (Odd u) v positive (inl (first, is)) good = (same_first_odd g shot (Some u)).0 first
 right-from_good g shot (Odd u) v positive (inr (other, is)) good = cc
 
 pub good-from_right : (g : DecodingGraph) (shot : ShotValue) (row : Row) (v : Verdict) → IsVerdict g shot row v
-    → IsRight (problem_of g shot) row → v ≡ Good
+    → IsRight (shot_problem g shot) row → v ≡ Good
 good-from_right g shot (Best edges weight cuts) v is right =
     is ∙ ap (λ o. unwrap_or o Good) (none-from_best g shot edges weight cuts right.1)
 good-from_right g shot (Odd u) v (inl (first, is)) right = is
-good-from_right g shot (Odd u) v (inr (other, is)) right = absurd (other right)
+good-from_right g shot (Odd u) v (inr (other, is)) right = absurd (other ((same_first_odd g shot (Some u)).1 right))
 
 pub least-from_right : (p : Problem) (row : Row) → IsRight p row → IsLeastWeight p row
 least-from_right p (Best edges weight cuts) right = least_weight p edges weight cuts right.1
 least-from_right p (Odd v) right = λ other set flips. no_correction p v right.0 other set.within flips
 
 pub ok_good : {E : Type 0} (g : DecodingGraph) (shot : ShotValue) (row : Row) (r : Result Verdict E) → HasPositiveValues row
-    → IfOk r (IsVerdict g shot row) → IfOk r (λ v. v ≡ Good ↔ IsRight (problem_of g shot) row)
+    → IfOk r (IsVerdict g shot row) → IfOk r (λ v. v ≡ Good ↔ IsRight (shot_problem g shot) row)
 ok_good g shot row (Ok v) positive is = (right-from_good g shot row v positive is, good-from_right g shot row v is)
 ok_good g shot row (Err e) positive is = is
 
 pub ok_least : {E : Type 0} (g : DecodingGraph) (shot : ShotValue) (row : Row) (r : Result Verdict E) → HasPositiveValues row
-    → IfOk r (IsVerdict g shot row) → IfOk r (λ v. v ≡ Good → IsLeastWeight (problem_of g shot) row)
+    → IfOk r (IsVerdict g shot row) → IfOk r (λ v. v ≡ Good → IsLeastWeight (shot_problem g shot) row)
 ok_least g shot row (Ok v) positive is =
-    λ good. least-from_right (problem_of g shot) row (right-from_good g shot row v positive is good)
+    λ good. least-from_right (shot_problem g shot) row (right-from_good g shot row v positive is good)
 ok_least g shot row (Err e) positive is = is

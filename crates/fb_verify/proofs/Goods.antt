@@ -10,7 +10,8 @@ use Rattle.std.specs.declared.cmp.Ordering.TheVariants.{Less, Equal, Greater}
 use Rattle.std.proofs.lemmas.Bool.{eqb-true, false≢true, lt-ltb, ltb-true, not-false, and_from, not_from_false}
 use Rattle.std.proofs.lemmas.List.Elements.{All-cons, All-head, All-nil, All-tail}
 use Rattle.fb_graph.specs.Certificate.{AreDistinct, AreRising, IsBefore, IsOddCut}
-use Rattle.fb_graph.specs.Limits.{DecodingGraph, ShotValue, problem_of}
+use Rattle.fb_graph.specs.Limits.{DecodingGraph, ShotValue}
+use Rattle.fb_graph.specs.ShotGraphs.{shot_problem}
 use Rattle.fb_graph.specs.Parity.{is_in, is_odd_count}
 use Rattle.fb_graph.specs.Problem.{Problem}
 use Rattle.fb_graph.specs.declared.parts.Cut.{Cut}
@@ -135,7 +136,7 @@ before_same a b same (c ∷ cs) before = ap (λ vs. slice_cmp nat_cmp vs c.verti
 
 cut-from_none : (g : DecodingGraph) (shot : ShotValue) (j : ℕ) (before : List ℕ) (c : Cut)
     → cut_fault g shot j before c.vertices ≡ None
-    → IsListed (problem_of g shot) c × (slice_cmp nat_cmp before c.vertices ≡ Less)
+    → IsListed (shot_problem g shot) c × (slice_cmp nat_cmp before c.vertices ≡ Less)
 cut-from_none g shot j before c none =
     let (empty, others) = or_none (fault_if (length c.vertices == 0) (CutEmpty j)) _ none in
     let (beyond, rest) = or_none (option_map VertexOutOfRange (first_beyond g.vertices c.vertices)) _ others in
@@ -164,13 +165,13 @@ cut-from_none g shot j before c none =
 
 pub cuts-from_none : (g : DecodingGraph) (shot : ShotValue) (j : ℕ) (before : List ℕ) (cuts : List Cut)
     → cuts_fault g shot j before cuts ≡ None
-    → All (IsListed (problem_of g shot)) cuts × AreRising (as_cut before ∷ cuts)
+    → All (IsListed (shot_problem g shot)) cuts × AreRising (as_cut before ∷ cuts)
 cuts-from_none g shot j before [] none = (All-nil _, (tt, tt))
 cuts-from_none g shot j before (c ∷ cs) none =
     let (here, later) = or_none (cut_fault g shot j before c.vertices) (cuts_fault g shot (j + 1) c.vertices cs) none in
     let (listed, order) = cut-from_none g shot j before c here in
     let (all, rising) = cuts-from_none g shot (j + 1) c.vertices cs later in (
-      All-cons (IsListed (problem_of g shot)) c cs listed all,
+      All-cons (IsListed (shot_problem g shot)) c cs listed all,
       (order, (before_same (as_cut c.vertices) c refl cs rising.0, rising.1)),
     )
 

@@ -10,6 +10,7 @@ use Rattle.fb_graph.specs.Problem.{Problem, Flips, IsEdgeSet, edge_at, touches, 
 use Rattle.fb_graph.specs.Certificate.{load_of, total_value}
 use Rattle.fb_graph.specs.Components.{IsFirstOdd}
 use Rattle.fb_graph.specs.Limits.{DecodingGraph, ShotValue, problem_of}
+use Rattle.fb_graph.specs.ShotGraphs.{shot_problem}
 use Rattle.fb_graph.specs.declared.parts.Cut.{Cut}
 use Rattle.fb_graph.specs.declared.parts.Row.{Row}
 use Rattle.fb_graph.specs.declared.parts.Row.TheVariants.{Best, Odd}
@@ -71,15 +72,16 @@ cuts_fault g shot j before [] = None
 cuts_fault g shot j before (c ∷ cs) =
     option_or (cut_fault g shot j before c.vertices) (cuts_fault g shot (j + 1) c.vertices cs)
 
--- the first fault of a correction with its certificate
+-- The first fault of a correction with its certificate. Its weight and the cuts' loads are compared with what the edges
+-- weigh for this shot; the other rules don't depend on weights.
 abbrev pub best_fault : DecodingGraph → ShotValue → List ℕ → ℕ → List Cut → Option Verdict
 best_fault g shot edges weight cuts = first_of (
     option_map EdgeOutOfRange (first_beyond (length g.edges) edges)
     ∷ option_map EdgesNotRising (first_fall edges)
     ∷ option_map WrongParity (least g.vertices (has_wrong_parity (problem_of g shot) edges))
-    ∷ fault_of_two WeightNotSum weight (weight_of (problem_of g shot) edges)
+    ∷ fault_of_two WeightNotSum weight (weight_of (shot_problem g shot) edges)
     ∷ cuts_fault g shot 0 [] cuts
-    ∷ option_map Overloaded (least (length g.edges) (is_overloaded (problem_of g shot) cuts))
+    ∷ option_map Overloaded (least (length g.edges) (is_overloaded (shot_problem g shot) cuts))
     ∷ fault_of_two SumDiffers weight (total_value cuts)
     ∷ [])
 

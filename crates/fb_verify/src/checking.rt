@@ -4,6 +4,7 @@ ghost use Rattle.std.specs.Prelude.{◌≡◌, ◌↔◌, IfOk, IfSome};
 ghost use Rattle.fb_graph.specs.Answers.{IsRight};
 ghost use Rattle.fb_graph.specs.Components.{IsFirstOdd};
 ghost use Rattle.fb_graph.specs.Limits.{IsShot, problem_of};
+ghost use Rattle.fb_graph.specs.ShotGraphs.{shot_problem};
 ghost use Rattle.fb_verify.specs.Verdicts.{HasPositiveValues, IsLeastWeight, IsOddVerdict, IsVerdict, best_verdict};
 ghost use Rattle.fb_verify.specs.declared.verdicts.Verdict.TheVariants.{Good};
 
@@ -17,15 +18,16 @@ use fb_graph::{Components, Cut, Graph, NoMemory, Row, Shot, Whole, components, f
 use std::alloc::Global;
 use std::marker::Model;
 
-/// What a check finds of the row of a shot: the first rule that it breaks, or that it is right. A row of a correction
-/// takes time by its own length, the number of defects and that of the edges at its cuts' vertices; an odd row takes
-/// time by the size of the graph. For many rows of one graph, a `Judge` looks at the graph once.
+/// What a check finds of the row of a shot: the first rule that it breaks, or that it is right, by what the edges weigh
+/// for the shot. A row of a correction takes time by its own length, the number of defects and that of the edges at its
+/// cuts' vertices, and looks up a weight for each; an odd row takes time by the size of the graph. For many rows of one
+/// graph, a `Judge` looks at the graph once.
 pub fn check_row(alloc: Global, graph: &Graph, shot: &Shot, row: &Row) -> Result<Verdict, NoMemory>
     requires shot { IsShot graph.now shot.now }
     requires values { HasPositiveValues row.now }
     ensures verdict { IfOk result (IsVerdict graph.now shot.now row.now) }
-    ensures good { IfOk result (λ v. (v ≡ Good) ↔ IsRight (problem_of graph.now shot.now) row.now) }
-    ensures least { IfOk result (λ v. v ≡ Good → IsLeastWeight (problem_of graph.now shot.now) row.now) }
+    ensures good { IfOk result (λ v. (v ≡ Good) ↔ IsRight (shot_problem graph.now shot.now) row.now) }
+    ensures least { IfOk result (λ v. v ≡ Good → IsLeastWeight (shot_problem graph.now shot.now) row.now) }
 {
     Judge::new(graph).check_row(alloc, shot, row)
 }
@@ -62,8 +64,8 @@ impl<'a> Judge<'a> {
         requires shot { IsShot self.old shot.now }
         requires values { HasPositiveValues row.now }
         ensures verdict { IfOk result (IsVerdict self.old shot.now row.now) }
-        ensures good { IfOk result (λ v. (v ≡ Good) ↔ IsRight (problem_of self.old shot.now) row.now) }
-        ensures least { IfOk result (λ v. v ≡ Good → IsLeastWeight (problem_of self.old shot.now) row.now) }
+        ensures good { IfOk result (λ v. (v ≡ Good) ↔ IsRight (shot_problem self.old shot.now) row.now) }
+        ensures least { IfOk result (λ v. v ≡ Good → IsLeastWeight (shot_problem self.old shot.now) row.now) }
         ensures same { self.new ≡ self.old }
     {
         self.find_verdict(alloc, shot, row)
@@ -156,14 +158,14 @@ fn check_best(
     if let Some(vertex) = wrong_parity(alloc, graph, shot, edges)? {
         return Ok(Verdict::WrongParity(vertex));
     }
-    let sum = sum_of_weights(graph, edges);
+    let sum = sum_of_weights(graph, shot, edges);
     if u128::from(weight) != sum {
         return Ok(Verdict::WeightNotSum(weight, sum));
     }
     if let Some(fault) = first_cut_fault(graph, shot, cuts) {
         return Ok(fault);
     }
-    if let Some(edge) = overloaded(alloc, graph, cuts)? {
+    if let Some(edge) = overloaded(alloc, graph, shot, cuts)? {
         return Ok(Verdict::Overloaded(edge));
     }
     let total = sum_of_values(cuts);

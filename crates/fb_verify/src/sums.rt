@@ -2,19 +2,19 @@
 
 ghost use Rattle.std.specs.Prelude.{◌≡◌, ◌<◌, All, length};
 ghost use Rattle.fb_graph.specs.Problem.{weight_of};
-ghost use Rattle.fb_graph.specs.Limits.{no_shot, problem_of};
+ghost use Rattle.fb_graph.specs.ShotGraphs.{shot_problem};
 ghost use Rattle.fb_graph.specs.Certificate.{total_value};
 
-use fb_graph::{Cut, Graph};
+use fb_graph::{Cut, Graph, Shot};
 
-/// The sum of the edges' weights.
-pub(crate) fn sum_of_weights(graph: &Graph, edges: &[u32]) -> u128
+/// The sum of what the edges weigh for the shot.
+pub(crate) fn sum_of_weights(graph: &Graph, shot: &Shot, edges: &[u32]) -> u128
     requires { All (λ k. k < length graph.now.edges) edges.now }
-    ensures { result ≡ weight_of (problem_of graph.now no_shot) edges.now }
+    ensures { result ≡ weight_of (shot_problem graph.now shot.now) edges.now }
 {
     let mut total: u128 = 0;
     for edge in edges {
-        total += u128::from(graph.weight(*edge));
+        total += u128::from(shot.weight(graph, *edge));
     }
     total
 }

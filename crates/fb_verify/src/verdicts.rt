@@ -13,7 +13,7 @@ pub enum Verdict {
     EdgesNotRising(u32),
     /// The least real vertex at which the parity of the edges isn't the shot's.
     WrongParity(u32),
-    /// The row's weight, and the sum of its edges' weights.
+    /// The row's weight, and the sum of what its edges weigh for the shot.
     WeightNotSum(u64, u128),
     /// A cut without vertices.
     CutEmpty(u64),
@@ -25,7 +25,7 @@ pub enum Verdict {
     CutHoldsVirtual(u32),
     /// A cut with an even number of defects.
     CutEven(u64),
-    /// The least edge that the cuts load above its weight.
+    /// The least edge that the cuts load above what it weighs for the shot.
     Overloaded(u32),
     /// The row's weight, and the sum of the cuts' values.
     SumDiffers(u64, u128),

@@ -1,7 +1,7 @@
 -- The premises of the laws on the seams of a plan are met: a line of five real vertices in three units, with two
 -- of the vertices as seams.
 use Rattle.std.specs.Prelude.{◌≡◌, ◌<◌, true, false, [], ◌∷◌, Some, None}
-use Rattle.fb_graph.specs.Limits.{DecodingGraph, ShotValue}
+use Rattle.fb_graph.specs.Limits.{DecodingGraph, ShotValue, plain_shot}
 use Rattle.fb_witnesses.specs.InternalSamples.{edge}
 use Rattle.fb_plan.specs.Plans.{IsPlan, PlanTree, children_of, problem_at}
 use Rattle.fb_plan.specs.Seams.{is_own}
@@ -23,7 +23,7 @@ line_plan = record {
 
 -- two defects, neither of them on a seam
 abbrev pub line_shot : ShotValue
-line_shot = record { defects = 1 ∷ 5 ∷ [] }
+line_shot = plain_shot (1 ∷ 5 ∷ [])
 
 -- Each fusion's seam is real in neither of its children; the upper one's is boundary of the lower one, too.
 abbrev pub PlanWitness : Type 0

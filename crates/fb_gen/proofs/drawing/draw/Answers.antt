@@ -24,7 +24,7 @@ returns-clause-state c =
     ∙ subst (λ s. c.flags_of_hits.new.draws ≡ state_after s (length c.args.graph.now.edges)) c.draws.view_is c.in_ok-flags.ensures.state
 
 pub returns-clause-edges : goal.returns-clause-edges
-returns-clause-edges c = drawn_edges _ _ _ _
+returns-clause-edges c = drawn_edges _ _ _ c.from_rising-shot.result
 
 pub returns-clause-flips : goal.returns-clause-flips
 returns-clause-flips c =

@@ -4,9 +4,11 @@ use Rattle.fb_graph.specs.Certificate.{AreDistinct}
 use Rattle.fb_graph.specs.Dual.{cover_of}
 use Rattle.fb_graph.specs.Limits.{IsGraph, no_shot}
 use Rattle.fb_plan.specs.Plans.{node_count, problem_at}
+use Rattle.fb_plan.specs.Scopes.{scope_graph}
 use Rattle.fb_blossoms.specs.Nodes as blossoms
 use Rattle.fb_half.specs.Merged.{IsPlanned}
 use Rattle.fb_half.specs.Translations.{link_by}
+use Rattle.fb_half.specs.Parts.{graph_in}
 use Rattle.fb_half.specs.Values.{part_of}
 use Rattle.fb_half.proofs.BegunParts.{shot_read}
 use Rattle.fb_half.proofs.ListedHalves.{met_listed, ok_with, opened_listed}
@@ -49,9 +51,9 @@ add_leaves-requires-clause-distinct c =
 pub add_leaves-requires-clause-real : goal.add_leaves-requires-clause-real
 add_leaves-requires-clause-real c =
     subst (λ g. All (λ v. (problem_at g c.args.parts.now.regions.scope.plan.now c.args.parts.now.regions.scope.node no_shot).is_real v ≡ true) c.deref-2.result.now) (sym c.requires.scope.graph)
-    (subst (λ t. All (λ v. (problem_at c.args.parts.now.job.now.graph t c.args.parts.now.regions.scope.node no_shot).is_real v ≡ true) c.deref-2.result.now) (sym c.requires.scope.plan)
-    (subst (λ n. All (λ v. (problem_at c.args.parts.now.job.now.graph c.args.parts.now.job.now.plan n no_shot).is_real v ≡ true) c.deref-2.result.now) (sym c.requires.scope.node)
-    (subst (All (λ v. (problem_at c.args.parts.now.job.now.graph c.args.parts.now.job.now.plan c.args.parts.now.node no_shot).is_real v ≡ true))
+    (subst (λ t. All (λ v. (problem_at (graph_in (part_of c.args.parts.now)) t c.args.parts.now.regions.scope.node no_shot).is_real v ≡ true) c.deref-2.result.now) (sym c.requires.scope.plan)
+    (subst (λ n. All (λ v. (problem_at (graph_in (part_of c.args.parts.now)) c.args.parts.now.job.now.plan n no_shot).is_real v ≡ true) c.deref-2.result.now) (sym c.requires.scope.node)
+    (subst (All (λ v. (problem_at (graph_in (part_of c.args.parts.now)) c.args.parts.now.job.now.plan c.args.parts.now.node no_shot).is_real v ≡ true))
     (sym (seam_read _ _ _ _ _ _ _ c.plan-plan.ensures (shot_read c.args.parts.now.job.now c.args.parts.now.slot _ _ _ c.shots.ensures c.requires.beside.beside.slot c.index-shots-slot.is c.as_slice.ensures.defects) c.in_ok-own.ensures c.deref-2.ensures.value))
     (seam_real (part_of c.args.parts.now) c.keeps.ensures (subst IsGraph c.graph.ensures c.limits.ensures) c.requires.beside.beside))))
 
@@ -85,7 +87,7 @@ pub returns-clause-scope : goal.returns-clause-scope
 returns-clause-scope c =
     ok_with c.add_leaves.result
     (λ (same : c.add_leaves.new.regions.scope ≡ c.args.parts.now.regions.scope) opened. record {
-      graph = ap (λ s. s.graph.now) same ∙ c.requires.scope.graph;
+      graph = ap scope_graph same ∙ c.requires.scope.graph;
       plan = ap (λ s. s.plan.now) same ∙ c.requires.scope.plan;
       node = ap (λ s. s.node) same ∙ c.requires.scope.node;
       listed = opened_listed _ (part_of c.args.parts.now) _ c.args.parts.now.seams c.take-listed.new.self c.requires.beside opened c.take-listed.ensures.others;

@@ -1,4 +1,7 @@
-use Rattle.std.proofs.Common.{◌∙◌, ap}
+use Rattle.std.proofs.Common.{◌∙◌, ap, refl}
+use Rattle.fb_plan.specs.Scopes.{scope_graph}
+use Rattle.fb_half.specs.InternalBeginnings.{empty_part}
+use Rattle.fb_half.proofs.SlotScopes.{scope_graph_is}
 use Rattle.fb_half.proofs.BegunParts.{empty_is}
 use Rattle.fb_half.proofs.DoneSteps.{made_holds}
 use Rattle.fb_half.proofs.spare.new_parts.Goals as goal
@@ -11,7 +14,7 @@ returns-clause-value c =
 pub returns-clause-scope : goal.returns-clause-scope
 returns-clause-scope c =
     let made = made_holds _ _ _ c.in_ok-regions.ensures.0 c.new-2.ensures in record {
-      graph = ap (λ r. r.scope.graph.now) made ∙ c.scope_of.ensures.graph;
-      plan = ap (λ r. r.scope.plan.now) made ∙ c.scope_of.ensures.plan;
-      node = ap (λ r. r.scope.node) made ∙ c.scope_of.ensures.node;
+      graph = ap (λ r. scope_graph r.scope) made ∙ scope_graph_is c.scope.result (empty_part c.args.job.now c.args.slot c.args.node) c.args.job.now c.args.slot refl refl c.scope.ensures.graph c.scope.ensures.shot;
+      plan = ap (λ r. r.scope.plan.now) made ∙ c.scope.ensures.plan;
+      node = ap (λ r. r.scope.node) made ∙ c.scope.ensures.node;
     }

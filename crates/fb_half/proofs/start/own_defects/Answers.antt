@@ -2,8 +2,7 @@ use Rattle.std.proofs.Common.{◌<◌, ◌∙◌, All, ap, subst, sym}
 use Rattle.std.proofs.lemmas.List.{take_all}
 use Rattle.std.proofs.lemmas.List.Elements.{All-filter}
 use Rattle.std.specs.List.{filter}
-use Rattle.fb_graph.specs.Limits.{no_shot}
-use Rattle.fb_plan.specs.Plans.{problem_at}
+use Rattle.fb_plan.specs.Scopes.{scope_problem}
 use Rattle.fb_plan.specs.Reaches.{is_reached}
 use Rattle.fb_half.proofs.Reached.{filter_pushed, real_reached}
 use Rattle.fb_half.proofs.start.own_defects.Goals as goal
@@ -16,7 +15,7 @@ is_real-requires c =
 
 pub loop-v-preserved : goal.loop-v-preserved
 loop-v-preserved c =
-    filter_pushed (problem_at c.args.scope.now.graph.now c.args.scope.now.plan.now c.args.scope.now.node no_shot).is_real
+    filter_pushed (scope_problem c.args.scope.now).is_real
     c.within-reached.result.now c.loop-v.v-index 0 c.loop-v.own _ c.is_real.result
     c.loop-v-test.true c.loop-v.invariant c.is_real.ensures c.in_ok-push_if.ensures.ok
 
@@ -24,6 +23,6 @@ pub returns : goal.returns
 returns c =
     c.into_vec.ensures
     ∙ (c.loop-v.invariant
-    ∙ (ap (filter (problem_at c.args.scope.now.graph.now c.args.scope.now.plan.now c.args.scope.now.node no_shot).is_real)
+    ∙ (ap (filter (scope_problem c.args.scope.now).is_real)
     (take_all c.loop-v.v-index c.within-reached.result.now c.loop-v-test.false ∙ c.within-reached.ensures)
-    ∙ real_reached (problem_at c.args.scope.now.graph.now c.args.scope.now.plan.now c.args.scope.now.node no_shot) c.args.reach c.requires.reach c.args.defects.now))
+    ∙ real_reached (scope_problem c.args.scope.now) c.args.reach c.requires.reach c.args.defects.now))

@@ -3,4 +3,4 @@ use Rattle.fb_graph.proofs.shot.Shot.from_rising.Goals as goal
 
 pub invariant_of-result : goal.invariant_of-result
 invariant_of-result c =
-    rw c.from_vec.ensures (c.requires.rising, length-shot c.args.graph.now _ c.limits.ensures c.requires)
+    rw c.from_vec.ensures (c.requires.rising, length-shot c.args.graph.now _ _ c.limits.ensures c.requires)

@@ -1,12 +1,17 @@
 use Rattle.std.proofs.Common.{◌∙◌, ◌++◌, drop, length, map, refl, sym, ap, subst}
 use Rattle.fb_graph.specs.Certificate.{AreDistinct}
 use Rattle.fb_links.specs.Names.{name_by}
+use Rattle.fb_graph.specs.Limits.{IsWithinLimits, no_shot}
+use Rattle.fb_graph.specs.NestUnions.{AreParts}
+use Rattle.fb_plan.specs.Plans.{problem_at}
+use Rattle.fb_plan.specs.Scopes.{scope_graph, scope_problem}
+use Rattle.fb_plan.proofs.ShotPlans.{shot_plan}
 use Rattle.fb_half.specs.InternalMerging.{joined_part}
 use Rattle.fb_half.specs.InternalSeams.{AreBesideListed, IsOpened, met_nodes}
 use Rattle.fb_half.specs.Matchings.{listed_names, matched_names}
 use Rattle.fb_half.specs.Merged.{renamed_match}
 use Rattle.fb_half.specs.Merged as promised
-use Rattle.fb_half.specs.Parts.{PartValue}
+use Rattle.fb_half.specs.Parts.{PartValue, graph_in, shot_of}
 use Rattle.fb_half.specs.Values.{HasScope, part_of}
 use Rattle.fb_half.specs.declared.merging.MergedParts.{MergedParts}
 use Rattle.fb_half.proofs.BesideNodes.{new_names}
@@ -16,22 +21,27 @@ use Rattle.fb_half.proofs.FusedMatches.{merged_is}
 use Rattle.fb_half.proofs.GivenHalves.{halves_of, pieces_are}
 use Rattle.fb_half.proofs.ListedHalves.{beside_listed}
 use Rattle.fb_half.proofs.MergedHalves.{beside, leaves_apart, matches_distinct, scoped_parts}
+use Rattle.fb_half.proofs.SlotScopes.{graphs_alike, scope_graph_is}
 use Rattle.fb_half.proofs.work.Work.merge_with_spare.Goals as goal
 
 pub merged_parts-requires-clause-leaves : goal.merged_parts-requires-clause-leaves
 merged_parts-requires-clause-leaves c =
     let h =
-    halves_of c.args.job.now c.args.node c.graph.result.now c.plan.result.now (part_of c.into_parts-left.result) (part_of c.into_parts-right.result) c.args.left c.args.right
-    c.into_parts-left.ensures.value c.into_parts-right.ensures.value c.requires.left c.requires.right c.requires.slot c.requires.children c.graph.ensures c.plan.ensures
-    c.limits.ensures c.keeps-2.ensures.part c.keeps-3.ensures.part c.keeps-2.ensures.matched c.keeps-3.ensures.matched in
+    halves_of c.args.job.now c.args.node (scope_graph c.scope-scope.result) c.scope-scope.result.plan.now (part_of c.into_parts-left.result) (part_of c.into_parts-right.result) c.args.left c.args.right
+    c.into_parts-left.ensures.value c.into_parts-right.ensures.value c.requires.left c.requires.right c.requires.slot c.requires.children
+    (scope_graph_is c.scope-scope.result c.args.left c.args.job.now c.slot.result c.requires.left c.slot.ensures c.scope-scope.ensures.graph c.scope-scope.ensures.shot) c.scope-scope.ensures.plan
+    (subst (λ n. IsWithinLimits (problem_at (scope_graph c.scope-scope.result) c.scope-scope.result.plan.now n no_shot)) c.scope-scope.ensures.node c.limits.ensures)
+    c.keeps-2.ensures.part c.keeps-3.ensures.part c.keeps-2.ensures.matched c.keeps-3.ensures.matched in
     leaves_apart (part_of c.into_parts-left.result) (part_of c.into_parts-right.result) c.args.node h.limits h.children h.one h.two h.matched h.also
 
 pub merged_parts-requires-clause-names : goal.merged_parts-requires-clause-names
 merged_parts-requires-clause-names c =
     let h =
-    halves_of c.args.job.now c.args.node c.graph.result.now c.plan.result.now (part_of c.into_parts-left.result) (part_of c.into_parts-right.result) c.args.left c.args.right
-    c.into_parts-left.ensures.value c.into_parts-right.ensures.value c.requires.left c.requires.right c.requires.slot c.requires.children c.graph.ensures c.plan.ensures
-    c.limits.ensures c.keeps-2.ensures.part c.keeps-3.ensures.part c.keeps-2.ensures.matched c.keeps-3.ensures.matched in
+    halves_of c.args.job.now c.args.node (scope_graph c.scope-scope.result) c.scope-scope.result.plan.now (part_of c.into_parts-left.result) (part_of c.into_parts-right.result) c.args.left c.args.right
+    c.into_parts-left.ensures.value c.into_parts-right.ensures.value c.requires.left c.requires.right c.requires.slot c.requires.children
+    (scope_graph_is c.scope-scope.result c.args.left c.args.job.now c.slot.result c.requires.left c.slot.ensures c.scope-scope.ensures.graph c.scope-scope.ensures.shot) c.scope-scope.ensures.plan
+    (subst (λ n. IsWithinLimits (problem_at (scope_graph c.scope-scope.result) c.scope-scope.result.plan.now n no_shot)) c.scope-scope.ensures.node c.limits.ensures)
+    c.keeps-2.ensures.part c.keeps-3.ensures.part c.keeps-2.ensures.matched c.keeps-3.ensures.matched in
     λ store links names are.
     new_names c.into_parts-left.result.regions.nodes c.into_parts-right.result.regions.nodes c.into_parts-left.result.blossoms c.into_parts-right.result.blossoms
     store links names h.one.agreed h.two.agreed are
@@ -39,20 +49,43 @@ merged_parts-requires-clause-names c =
 pub merged_parts-requires-clause-parts : goal.merged_parts-requires-clause-parts
 merged_parts-requires-clause-parts c =
     let h =
-    halves_of c.args.job.now c.args.node c.graph.result.now c.plan.result.now (part_of c.into_parts-left.result) (part_of c.into_parts-right.result) c.args.left c.args.right
-    c.into_parts-left.ensures.value c.into_parts-right.ensures.value c.requires.left c.requires.right c.requires.slot c.requires.children c.graph.ensures c.plan.ensures
-    c.limits.ensures c.keeps-2.ensures.part c.keeps-3.ensures.part c.keeps-2.ensures.matched c.keeps-3.ensures.matched in
-    scoped_parts (part_of c.into_parts-left.result).job c.args.node c.into_parts-left.result.node c.into_parts-right.result.node _ _ _ _ _ _ _ _ h.one.job.plan h.children
-    c.into_parts-left.ensures.scope.graph (c.into_parts-right.ensures.scope.graph ∙ ap (λ j. j.graph) h.same_job) (c.graph.ensures ∙ ap (λ j. j.graph) (sym h.job))
-    c.into_parts-left.ensures.scope.plan (c.into_parts-right.ensures.scope.plan ∙ ap (λ j. j.plan) h.same_job) (c.plan.ensures ∙ ap (λ j. j.plan) (sym h.job))
-    c.into_parts-left.ensures.scope.node c.into_parts-right.ensures.scope.node
+    halves_of c.args.job.now c.args.node (scope_graph c.scope-scope.result) c.scope-scope.result.plan.now (part_of c.into_parts-left.result) (part_of c.into_parts-right.result) c.args.left c.args.right
+    c.into_parts-left.ensures.value c.into_parts-right.ensures.value c.requires.left c.requires.right c.requires.slot c.requires.children
+    (scope_graph_is c.scope-scope.result c.args.left c.args.job.now c.slot.result c.requires.left c.slot.ensures c.scope-scope.ensures.graph c.scope-scope.ensures.shot) c.scope-scope.ensures.plan
+    (subst (λ n. IsWithinLimits (problem_at (scope_graph c.scope-scope.result) c.scope-scope.result.plan.now n no_shot)) c.scope-scope.ensures.node c.limits.ensures)
+    c.keeps-2.ensures.part c.keeps-3.ensures.part c.keeps-2.ensures.matched c.keeps-3.ensures.matched in
+    let left = part_of c.into_parts-left.result in
+    let right = part_of c.into_parts-right.result in
+    let graph = scope_graph_is c.scope-scope.result c.args.left c.args.job.now c.slot.result c.requires.left c.slot.ensures c.scope-scope.ensures.graph c.scope-scope.ensures.shot in
+    subst (λ n. AreParts (scope_problem c.into_parts-left.result.regions.scope) (scope_problem c.into_parts-right.result.regions.scope)
+    (problem_at (scope_graph c.scope-scope.result) c.scope-scope.result.plan.now n no_shot)) (sym c.scope-scope.ensures.node)
+    (scoped_parts (record left.job { graph = graph_in left }) c.args.node left.node right.node _ _ _ _ _ _ _ _
+    (shot_plan left.job.graph left.job.plan (shot_of left) h.one.job.plan) h.children
+    c.into_parts-left.ensures.scope.graph (c.into_parts-right.ensures.scope.graph ∙ graphs_alike right left h.same_job h.same_slot)
+    (graph ∙ ap graph_in (sym c.into_parts-left.ensures.value))
+    c.into_parts-left.ensures.scope.plan (c.into_parts-right.ensures.scope.plan ∙ ap (λ j. j.plan) h.same_job) (c.scope-scope.ensures.plan ∙ ap (λ j. j.plan) (sym h.job))
+    c.into_parts-left.ensures.scope.node c.into_parts-right.ensures.scope.node)
+
+pub merged_parts-requires-clause-left_vertices : goal.merged_parts-requires-clause-left_vertices
+merged_parts-requires-clause-left_vertices c =
+    ap (λ g. g.vertices) c.into_parts-left.ensures.scope.graph
+    ∙ (ap (λ w. w.job.graph.vertices) c.into_parts-left.ensures.value
+    ∙ (ap (λ j. j.graph.vertices) c.requires.left ∙ sym (ap (λ g. g.vertices) c.scope-scope.ensures.graph)))
+
+pub merged_parts-requires-clause-right_vertices : goal.merged_parts-requires-clause-right_vertices
+merged_parts-requires-clause-right_vertices c =
+    ap (λ g. g.vertices) c.into_parts-right.ensures.scope.graph
+    ∙ (ap (λ w. w.job.graph.vertices) c.into_parts-right.ensures.value
+    ∙ (ap (λ j. j.graph.vertices) c.requires.right ∙ sym (ap (λ g. g.vertices) c.scope-scope.ensures.graph)))
 
 pub complete-requires-clause-distinct : goal.complete-requires-clause-distinct
 complete-requires-clause-distinct c =
     let h =
-    halves_of c.args.job.now c.args.node c.graph.result.now c.plan.result.now (part_of c.into_parts-left.result) (part_of c.into_parts-right.result) c.args.left c.args.right
-    c.into_parts-left.ensures.value c.into_parts-right.ensures.value c.requires.left c.requires.right c.requires.slot c.requires.children c.graph.ensures c.plan.ensures
-    c.limits.ensures c.keeps-2.ensures.part c.keeps-3.ensures.part c.keeps-2.ensures.matched c.keeps-3.ensures.matched in
+    halves_of c.args.job.now c.args.node (scope_graph c.scope-scope.result) c.scope-scope.result.plan.now (part_of c.into_parts-left.result) (part_of c.into_parts-right.result) c.args.left c.args.right
+    c.into_parts-left.ensures.value c.into_parts-right.ensures.value c.requires.left c.requires.right c.requires.slot c.requires.children
+    (scope_graph_is c.scope-scope.result c.args.left c.args.job.now c.slot.result c.requires.left c.slot.ensures c.scope-scope.ensures.graph c.scope-scope.ensures.shot) c.scope-scope.ensures.plan
+    (subst (λ n. IsWithinLimits (problem_at (scope_graph c.scope-scope.result) c.scope-scope.result.plan.now n no_shot)) c.scope-scope.ensures.node c.limits.ensures)
+    c.keeps-2.ensures.part c.keeps-3.ensures.part c.keeps-2.ensures.matched c.keeps-3.ensures.matched in
     let m = c.in_ok-merged.merged in
     subst (λ l. AreDistinct (listed_names l ++ matched_names (map (renamed_match (name_by m.link_names.items) (name_by m.names.items)) m.others.matches)))
     (sym c.in_ok-merged.ensures.matching)
@@ -64,15 +97,17 @@ complete-requires-clause-distinct c =
 pub complete-requires-clause-beside : goal.complete-requires-clause-beside
 complete-requires-clause-beside c =
     let h =
-    halves_of c.args.job.now c.args.node c.graph.result.now c.plan.result.now (part_of c.into_parts-left.result) (part_of c.into_parts-right.result) c.args.left c.args.right
-    c.into_parts-left.ensures.value c.into_parts-right.ensures.value c.requires.left c.requires.right c.requires.slot c.requires.children c.graph.ensures c.plan.ensures
-    c.limits.ensures c.keeps-2.ensures.part c.keeps-3.ensures.part c.keeps-2.ensures.matched c.keeps-3.ensures.matched in
+    halves_of c.args.job.now c.args.node (scope_graph c.scope-scope.result) c.scope-scope.result.plan.now (part_of c.into_parts-left.result) (part_of c.into_parts-right.result) c.args.left c.args.right
+    c.into_parts-left.ensures.value c.into_parts-right.ensures.value c.requires.left c.requires.right c.requires.slot c.requires.children
+    (scope_graph_is c.scope-scope.result c.args.left c.args.job.now c.slot.result c.requires.left c.slot.ensures c.scope-scope.ensures.graph c.scope-scope.ensures.shot) c.scope-scope.ensures.plan
+    (subst (λ n. IsWithinLimits (problem_at (scope_graph c.scope-scope.result) c.scope-scope.result.plan.now n no_shot)) c.scope-scope.ensures.node c.limits.ensures)
+    c.keeps-2.ensures.part c.keeps-3.ensures.part c.keeps-2.ensures.matched c.keeps-3.ensures.matched in
     let stores = c.in_ok-merged.ensures.blossoms in
     let made : PartValue = joined_part c.in_ok-merged.merged in
     let same =
     pieces_are c.args.job.now (part_of c.into_parts-left.result) (part_of c.into_parts-right.result) made c.args.node c.in_ok-merged.merged.link_names.items c.in_ok-merged.merged.names.items
     c.in_ok-merged.merged.link_names.items c.in_ok-merged.merged.names.items c.in_ok-merged.merged.others.matches h
-    (c.in_ok-merged.ensures.job ∙ h.job) c.in_ok-merged.ensures.slot c.in_ok-merged.ensures.node refl refl
+    (c.in_ok-merged.ensures.job ∙ h.job) c.in_ok-merged.ensures.slot (c.in_ok-merged.ensures.node ∙ c.scope-scope.ensures.node) refl refl
     (ap (λ r. r.nodes) c.in_ok-merged.ensures.regions)
     (ap (λ l. l.matches) c.in_ok-merged.ensures.others)
     (ap (λ l. record {
@@ -88,15 +123,17 @@ complete-requires-clause-beside c =
 pub invariant_of-result : goal.invariant_of-result
 invariant_of-result c =
     let h =
-    halves_of c.args.job.now c.args.node c.graph.result.now c.plan.result.now (part_of c.into_parts-left.result) (part_of c.into_parts-right.result) c.args.left c.args.right
-    c.into_parts-left.ensures.value c.into_parts-right.ensures.value c.requires.left c.requires.right c.requires.slot c.requires.children c.graph.ensures c.plan.ensures
-    c.limits.ensures c.keeps-2.ensures.part c.keeps-3.ensures.part c.keeps-2.ensures.matched c.keeps-3.ensures.matched in
+    halves_of c.args.job.now c.args.node (scope_graph c.scope-scope.result) c.scope-scope.result.plan.now (part_of c.into_parts-left.result) (part_of c.into_parts-right.result) c.args.left c.args.right
+    c.into_parts-left.ensures.value c.into_parts-right.ensures.value c.requires.left c.requires.right c.requires.slot c.requires.children
+    (scope_graph_is c.scope-scope.result c.args.left c.args.job.now c.slot.result c.requires.left c.slot.ensures c.scope-scope.ensures.graph c.scope-scope.ensures.shot) c.scope-scope.ensures.plan
+    (subst (λ n. IsWithinLimits (problem_at (scope_graph c.scope-scope.result) c.scope-scope.result.plan.now n no_shot)) c.scope-scope.ensures.node c.limits.ensures)
+    c.keeps-2.ensures.part c.keeps-3.ensures.part c.keeps-2.ensures.matched c.keeps-3.ensures.matched in
     let stores = c.in_ok-merged.ensures.blossoms in
     let made : PartValue = joined_part c.in_ok-merged.merged in
     let same =
     pieces_are c.args.job.now (part_of c.into_parts-left.result) (part_of c.into_parts-right.result) made c.args.node c.in_ok-merged.merged.link_names.items c.in_ok-merged.merged.names.items
     c.in_ok-merged.merged.link_names.items c.in_ok-merged.merged.names.items c.in_ok-merged.merged.others.matches h
-    (c.in_ok-merged.ensures.job ∙ h.job) c.in_ok-merged.ensures.slot c.in_ok-merged.ensures.node refl refl
+    (c.in_ok-merged.ensures.job ∙ h.job) c.in_ok-merged.ensures.slot (c.in_ok-merged.ensures.node ∙ c.scope-scope.ensures.node) refl refl
     (ap (λ r. r.nodes) c.in_ok-merged.ensures.regions)
     (ap (λ l. l.matches) c.in_ok-merged.ensures.others)
     (ap (λ l. record {
@@ -119,15 +156,17 @@ invariant_of-result c =
 pub returns : goal.returns
 returns c =
     let h =
-    halves_of c.args.job.now c.args.node c.graph.result.now c.plan.result.now (part_of c.into_parts-left.result) (part_of c.into_parts-right.result) c.args.left c.args.right
-    c.into_parts-left.ensures.value c.into_parts-right.ensures.value c.requires.left c.requires.right c.requires.slot c.requires.children c.graph.ensures c.plan.ensures
-    c.limits.ensures c.keeps-2.ensures.part c.keeps-3.ensures.part c.keeps-2.ensures.matched c.keeps-3.ensures.matched in
+    halves_of c.args.job.now c.args.node (scope_graph c.scope-scope.result) c.scope-scope.result.plan.now (part_of c.into_parts-left.result) (part_of c.into_parts-right.result) c.args.left c.args.right
+    c.into_parts-left.ensures.value c.into_parts-right.ensures.value c.requires.left c.requires.right c.requires.slot c.requires.children
+    (scope_graph_is c.scope-scope.result c.args.left c.args.job.now c.slot.result c.requires.left c.slot.ensures c.scope-scope.ensures.graph c.scope-scope.ensures.shot) c.scope-scope.ensures.plan
+    (subst (λ n. IsWithinLimits (problem_at (scope_graph c.scope-scope.result) c.scope-scope.result.plan.now n no_shot)) c.scope-scope.ensures.node c.limits.ensures)
+    c.keeps-2.ensures.part c.keeps-3.ensures.part c.keeps-2.ensures.matched c.keeps-3.ensures.matched in
     let stores = c.in_ok-merged.ensures.blossoms in
     let made : PartValue = joined_part c.in_ok-merged.merged in
     let same =
     pieces_are c.args.job.now (part_of c.into_parts-left.result) (part_of c.into_parts-right.result) made c.args.node c.in_ok-merged.merged.link_names.items c.in_ok-merged.merged.names.items
     c.in_ok-merged.merged.link_names.items c.in_ok-merged.merged.names.items c.in_ok-merged.merged.others.matches h
-    (c.in_ok-merged.ensures.job ∙ h.job) c.in_ok-merged.ensures.slot c.in_ok-merged.ensures.node refl refl
+    (c.in_ok-merged.ensures.job ∙ h.job) c.in_ok-merged.ensures.slot (c.in_ok-merged.ensures.node ∙ c.scope-scope.ensures.node) refl refl
     (ap (λ r. r.nodes) c.in_ok-merged.ensures.regions)
     (ap (λ l. l.matches) c.in_ok-merged.ensures.others)
     (ap (λ l. record {

@@ -11,7 +11,7 @@ use Rattle.fb_shots_stim.specs.RunsR8.{after_r8, records_r8, prefix_r8}
 use Rattle.fb_request.specs.declared.format.Format.TheVariants as format
 use Rattle.fb_shots.specs.declared.reader.FormatReader.{FormatReader}
 use Rattle.fb_shots.specs.declared.reader.FormatReader.TheVariants.{Text01, B8, Dets, Hits, R8, Json}
-use Rattle.fb_shots.specs.Formats.{shot_of_vertices, of_stim}
+use Rattle.fb_shots.specs.Formats.{of_stim}
 use Rattle.fb_shots.specs.InternalAnswers.{Answers, NextShot}
 use Rattle.fb_shots.specs.InternalReaders.{source_of, IsReaderOf}
 use Rattle.fb_shots.proofs.Readings.{stim_right, json_right}
@@ -78,6 +78,6 @@ returns-in_ok-next-in-Json-clause-meaning c =
     let old = c.in-Json.reader in
     let new = c.next-in-Json.new.self in
     let same : old.subject ≡ g = subst (IsReaderOf g) c.in-Json.is c.requires in
-    subst₂ (λ (r : FormatReader) (a : NextShot). Answers (source_of g r) (source_of g (Json new)) a) (sym c.in-Json.is) (sym c.of_vertices.ensures)
+    subst₂ (λ (r : FormatReader) (a : NextShot). Answers (source_of g r) (source_of g (Json new)) a) (sym c.in-Json.is) (sym c.of_lines.ensures)
     (json_right g old new c.in_ok-next-in-Json.field-0 same
-    (subst (λ (x : DecodingGraph). IfShot (λ vertices. IsShot x (shot_of_vertices vertices)) c.in_ok-next-in-Json.field-0) same c.in_ok-next-in-Json.ensures.shot) c.in_ok-next-in-Json.ensures.meaning)
+    (subst (λ (x : DecodingGraph). IfShot (IsShot x) c.in_ok-next-in-Json.field-0) same c.in_ok-next-in-Json.ensures.shot) c.in_ok-next-in-Json.ensures.meaning)
