@@ -1,12 +1,12 @@
 -- A search that begins keeps what every search keeps.
-use Rattle.std.proofs.Common.{ℕ, ◌≡◌, ◌==◌, ◌<◌, ◌≤◌, ◌||◌, ◌⊎◌, inl, inr, Bool, cond, true, false, List, [], length, get_or, All, Option, Some, None, refl, sym, ap, ◌∙◌, le_refl, arith}
+use Rattle.std.proofs.Common.{ℕ, ◌≡◌, ◌==◌, ◌<◌, ◌≤◌, ◌||◌, ◌⊎◌, inl, inr, Bool, cond, true, false, List, [], length, get_or, All, Option, Some, None, refl, sym, ap, ◌∙◌, subst, le_refl, arith}
 use Rattle.std.proofs.lemmas.Bool.{false≢true, eqb-true}
 use Rattle.fb_graph.specs.Parity.{is_in}
 use Rattle.fb_graph.specs.Problem.{Problem, edge_at, touches, no_edge}
 use Rattle.fb_graph.specs.Limits.{DecodingGraph, IsWithinLimits, no_shot}
 use Rattle.fb_graph.specs.Dual.{cover_of, top_at}
 use Rattle.fb_graph.specs.Covers.{is_covered_by, passes}
-use Rattle.fb_half.specs.Parts.{IsPart, PartValue, problem_in, state_of}
+use Rattle.fb_half.specs.Parts.{IsPart, PartValue, graph_in, problem_in, state_of}
 use Rattle.fb_laws.proofs.SearchTrees.{cover_set}
 use Rattle.fb_laws.proofs.StateMoves.{search_from_root}
 use Rattle.fb_trees.specs.Rooted.{bare}
@@ -88,16 +88,18 @@ begun_searching root part old new are limits within below room empty watched = r
         watched.near _ k (under_root root _ part new are over) less (touches_second (problem_in part) k limits less)
 
 -- what the scope of the part's node keeps, though its problem has no defects
-pub kept_limits : (part : PartValue) (g : DecodingGraph) (t : PlanTree) (n : ℕ) → g ≡ part.job.graph → t ≡ part.job.plan
+pub kept_limits : (part : PartValue) (g : DecodingGraph) (t : PlanTree) (n : ℕ) → g ≡ graph_in part → t ≡ part.job.plan
     → n ≡ part.node → IsWithinLimits (problem_at g t n no_shot) → IsWithinLimits (problem_in part)
 kept_limits part g t n eg et en limits =
-    let l : IsWithinLimits (problem_at part.job.graph part.job.plan part.node no_shot) = rw (← eg, ← et, ← en) limits in
+    let l : IsWithinLimits (problem_at (graph_in part) part.job.plan part.node no_shot) =
+    subst (λ h. IsWithinLimits (problem_at h part.job.plan part.node no_shot)) eg (rw (← et, ← en) limits) in
     record { vertices = l.vertices; edges = l.edges; each_edge = l.each_edge; real_below = l.real_below }
 
 pub kept_watches : (part : PartValue) (g : DecodingGraph) (t : PlanTree) (n : ℕ) (vs : List ℕ) (old new : Watched)
-    → g ≡ part.job.graph → Watches (problem_at g t n no_shot) vs old new → Watches (problem_in part) vs old new
+    → g ≡ graph_in part → Watches (problem_at g t n no_shot) vs old new → Watches (problem_in part) vs old new
 kept_watches part g t n vs old new eg watches =
-    let w : Watches (problem_at part.job.graph t n no_shot) vs old new = rw (← eg) watches in
+    let w : Watches (problem_at (graph_in part) t n no_shot) vs old new =
+    subst (λ h. Watches (problem_at h t n no_shot) vs old new) eg watches in
     record { room = w.room; kept = w.kept; near = w.near; bounds = w.bounds }
 
 pub same_scope : (g h : DecodingGraph) (t s : PlanTree) (n m : ℕ) → g ≡ h → t ≡ s → n ≡ m

@@ -25,6 +25,7 @@ use Rattle.fb_trees.specs.Replacements as replacements
 use Rattle.fb_trees.specs.TreeSteps.{IsCycle}
 use Rattle.fb_trees.proofs.Mapped.{names_moved}
 use Rattle.fb_plan.specs.declared.scope.NodeScope.{NodeScope}
+use Rattle.fb_plan.specs.Scopes.{scope_graph}
 use Rattle.fb_half.specs.Matchings.{MatchingValue, listed_names, match_links}
 use Rattle.fb_half.specs.Parts.{AreAgreed}
 use Rattle.fb_half.specs.Translations.{link_by}
@@ -243,8 +244,8 @@ module _ (w : SearchValue) (a b closing : ℕ) (closes : Closes w a b closing) (
         (sym tree_is)
         (λ listed.
         cycle_closed gone same matching listed watched
-        (kept_limits w.part scope.graph.now scope.plan.now scope.node own.graph own.plan own.node limits)
-        (watches_minus w.part scope.graph.now scope.plan.now scope.node w.part.nodes w.tree gone w.watched watched
+        (kept_limits w.part (scope_graph scope) scope.plan.now scope.node own.graph own.plan own.node limits)
+        (watches_minus w.part (scope_graph scope) scope.plan.now scope.node w.part.nodes w.tree gone w.watched watched
         own.graph watches)
         below)
         listed

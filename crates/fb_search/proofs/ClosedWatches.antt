@@ -17,7 +17,7 @@ use Rattle.fb_laws.specs.SearchBlossoms.{joined_tree, outer_branches, renamed_na
 use Rattle.fb_laws.specs.Trees.{EntryOf, minus_names, plus_names, tree_names}
 use Rattle.fb_laws.proofs.SearchTrees.{cover_set}
 use Rattle.fb_plan.specs.Plans.{PlanTree, problem_at}
-use Rattle.fb_half.specs.Parts.{PartValue, problem_in}
+use Rattle.fb_half.specs.Parts.{PartValue, graph_in, problem_in}
 use Rattle.fb_obstacles.specs.InternalWatch.{StaysRight}
 use Rattle.fb_obstacles.specs.InternalWatching.{Watches}
 use Rattle.fb_obstacles.specs.Obstacles.{IsWatched, grows, roles_by, shrinks, slack_at}
@@ -340,9 +340,10 @@ module _ (p : Problem) (nodes : List Node) (tree : Grown) (name : ℕ) (children
 
 -- the same by the scope of the part's node, whose problem has no defects
 pub watches_minus : (part : PartValue) (g : DecodingGraph) (t : PlanTree) (n : ℕ) (nodes : List Node) (tree : Grown)
-    (names : List ℕ) (old new : Watched) → g ≡ part.job.graph
+    (names : List ℕ) (old new : Watched) → g ≡ graph_in part
     → WatchesMinus (problem_at g t n no_shot) nodes tree names old new
     → WatchesMinus (problem_in part) nodes tree names old new
 watches_minus part g t n nodes tree names old new eg watches =
-    let w : WatchesMinus (problem_at part.job.graph t n no_shot) nodes tree names old new = rw (← eg) watches in
+    let w : WatchesMinus (problem_at (graph_in part) t n no_shot) nodes tree names old new =
+    subst (λ h. WatchesMinus (problem_at h t n no_shot) nodes tree names old new) eg watches in
     record { room = w.room; kept = w.kept; near = w.near; bounds = w.bounds }

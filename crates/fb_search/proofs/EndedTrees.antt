@@ -8,7 +8,7 @@ use Rattle.std.proofs.lemmas.List.{map-append}
 use Rattle.std.proofs.lemmas.List.Sorted.{IsPermutation-cons, IsPermutation-middle, IsPermutation-refl, IsPermutation-sym, IsPermutation-trans}
 use Rattle.fb_graph.specs.Parity.{is_in}
 use Rattle.fb_graph.proofs.Sets.{is_in-cases}
-use Rattle.fb_laws.specs.LinkNumbers.{links_dropped, links_matched}
+use Rattle.fb_laws.specs.LinkNumbers.{links_matched}
 use Rattle.fb_laws.specs.TreeCycles.{nodes_along}
 use Rattle.fb_laws.specs.Trees.{EntryOf, branches_beside, grown_links, paired_links, path_to, plus_names}
 use Rattle.fb_trees.specs.Branches.{entry_of}
@@ -120,20 +120,6 @@ matches_linked tree name =
     ∙ ap (λ l. grown_links (path_to tree name) ++ l) (beside_links (branches_beside tree name))
 
 -- what is read of each branch of a list, from its form as an entry
-read_as : {X : Type 0} (f : EntryOf ℕ → X) (bs : List Branch) (es : List (EntryOf ℕ)) → map entry_of bs ≡ es
+pub read_as : {X : Type 0} (f : EntryOf ℕ → X) (bs : List Branch) (es : List (EntryOf ℕ)) → map entry_of bs ≡ es
     → map (λ b. f (entry_of b)) bs ≡ map f es
 read_as f bs es is = sym (map-map f entry_of bs) ∙ ap (map f) is
-
-pub matches_read : (path others : List Branch) (tree : List (EntryOf ℕ)) (name : ℕ) → map entry_of path ≡ path_to tree name
-    → map entry_of others ≡ branches_beside tree name
-    → map (λ b. path_match (entry_of b)) path ++ map (λ b. beside_match (entry_of b)) others ≡ ended_matches tree name
-matches_read path others tree name up off =
-    ap (λ l. l ++ map (λ b. beside_match (entry_of b)) others) (read_as path_match path (path_to tree name) up)
-    ∙ ap (λ l. map path_match (path_to tree name) ++ l) (read_as beside_match others (branches_beside tree name) off)
-
-pub links_read : (path others : List Branch) (tree : List (EntryOf ℕ)) (name : ℕ) → map entry_of path ≡ path_to tree name
-    → map entry_of others ≡ branches_beside tree name
-    → map (λ b. b.matched) path ++ map (λ b. b.tree) others ≡ links_dropped tree name
-links_read path others tree name up off =
-    ap (λ l. l ++ map (λ b. b.tree) others) (read_as (λ e. e.matched) path (path_to tree name) up)
-    ∙ ap (λ l. paired_links (path_to tree name) ++ l) (read_as (λ e. e.tree) others (branches_beside tree name) off)

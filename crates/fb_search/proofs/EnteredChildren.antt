@@ -58,7 +58,7 @@ module _ (nodes : List Node) (store : List (Option blossoms.Node)) (agreed : Are
   }
 
 -- a tight link ends at a defect where it ends under a node
-end_is_leaf : (p : Problem) (nodes : List Node) (l : Link) (d name : ℕ) → IsNest p nodes → AreMatchedLinks p nodes (l ∷ [])
+pub end_is_leaf : (p : Problem) (nodes : List Node) (l : Link) (d name : ℕ) → IsNest p nodes → AreMatchedLinks p nodes (l ∷ [])
     → (d ≡ l.from) ⊎ (d ≡ l.to) → cover_of nodes d ≡ Some name → is_in (leaves nodes) d ≡ true
 end_is_leaf p nodes l d name nest are ends cover = by ends
   where

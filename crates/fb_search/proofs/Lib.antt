@@ -24,6 +24,7 @@ pub mod EndedNames
 pub mod EndedParts
 pub mod EndedTrees
 pub mod EndedWays
+pub mod EndsUnder
 pub mod EnteredChildren
 pub mod ExchangedObstacles
 pub mod FreeSteps
@@ -72,6 +73,7 @@ pub mod ReplacedNames
 pub mod RolesInTree
 pub mod RoundPaces
 pub mod RoundPlaces
+pub mod RoundRuns
 pub mod RoundSteps
 pub mod RoundedLinks
 pub mod RoundedSearches
@@ -82,6 +84,7 @@ pub mod SearchedEach
 pub mod StepPairs
 pub mod StepWalks
 pub mod SteppedSearches
+pub mod SwappedPaths
 pub mod TakenNames
 pub mod TakenVertices
 pub mod TreeEnds

@@ -19,6 +19,7 @@ use Rattle.fb_plan.specs.Laws.{IsJob}
 use Rattle.fb_plan.specs.Plans.{PlanTree, owner_of, problem_at}
 use Rattle.fb_plan.specs.Vertices.{is_node}
 use Rattle.fb_plan.specs.declared.scope.NodeScope.{NodeScope}
+use Rattle.fb_plan.specs.Scopes.{scope_problem}
 use Rattle.fb_links.specs.declared.walk.Step.{Step}
 use Rattle.fb_links.specs.Table.{Adds, link_at, walk_at}
 use Rattle.fb_links.specs.Walks.{end_of, start_of}
@@ -155,7 +156,7 @@ last_listed real t s new links owner link name adds is o none at =
 
 -- the owner that is read by the scope
 pub owner_scoped : (scope : NodeScope) (w : PartValue) (l : Link) → IsScopeOf scope w
-    → owner_of scope.plan.now (far_end (problem_at scope.graph.now scope.plan.now scope.node no_shot).is_real l)
+    → owner_of scope.plan.now (far_end (scope_problem scope).is_real l)
     ≡ owner_of w.job.plan (far_end (problem_in w).is_real l)
 owner_scoped scope w l is = (λ i. owner_of (is.plan i) (far_end (problem_at (is.graph i) (is.plan i) (is.node i) no_shot).is_real l))
 

@@ -18,6 +18,7 @@ use Rattle.fb_obstacles.specs.Obstacles.{residue_of}
 use Rattle.fb_trees.proofs.Names.{root_plus}
 use Rattle.fb_trees.specs.Rooted.{bare}
 use Rattle.fb_plan.specs.declared.scope.NodeScope.{NodeScope}
+use Rattle.fb_plan.specs.Scopes.{scope_graph}
 use Rattle.fb_half.specs.Values.{IsScopeOf}
 use Rattle.fb_half.specs.Matchings.{matched_names}
 use Rattle.fb_half.specs.Parts.{IsPart, PartValue, problem_in}
@@ -82,7 +83,7 @@ bears_growth p nodes v far between room dual has j less at =
 pub limits_scoped : (part : PartValue) (s t : NodeScope) → t ≡ s → IsScopeOf s part → IsWithinLimits (scoped t)
     → IsWithinLimits (problem_in part)
 limits_scoped part s t same own limits =
-    kept_limits part t.graph.now t.plan.now t.node (ap (λ x. x.graph.now) same ∙ own.graph)
+    kept_limits part (scope_graph t) t.plan.now t.node (ap scope_graph same ∙ own.graph)
     (ap (λ x. x.plan.now) same ∙ own.plan) (ap (λ x. x.node) same ∙ own.node) limits
 
 -- a search of a part that has stepped, and then ended
@@ -177,12 +178,12 @@ module _ (part : PartValue) (root edge k : ℕ) (are : IsPart part) (limits : Is
 
     pub boundary_tree : IsTreeOver (scoped s) (bare root) part.nodes
     boundary_tree =
-        tree_in_scope (bare_search root part) s.graph.now s.plan.now s.node own.graph
+        tree_in_scope (bare_search root part) (scope_graph s) s.plan.now s.node own.graph
         (tree_over (bare_search root part) (searching_bare root part are within))
 
     pub boundary_step : MayStep (scoped s) (alone root) part.nodes k
     boundary_step =
-        step_in_scope (bare_search root part) s.graph.now s.plan.now s.node k (alone root) own.graph boundary_may
+        step_in_scope (bare_search root part) (scope_graph s) s.plan.now s.node k (alone root) own.graph boundary_may
 
   -- no name is listed twice, and a part is left
   module _ (link : ℕ) (unmatched : List ℕ) (moved : IsPermutation part.matching.unmatched (root ∷ unmatched)) where

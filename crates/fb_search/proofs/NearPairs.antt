@@ -18,6 +18,7 @@ use Rattle.fb_links.specs.declared.walk.Step.{Step}
 use Rattle.fb_links.specs.Table.{Adds}
 use Rattle.fb_trees.specs.Rooted.{bare}
 use Rattle.fb_plan.specs.declared.scope.NodeScope.{NodeScope}
+use Rattle.fb_plan.specs.Scopes.{scope_graph}
 use Rattle.fb_half.specs.Values.{IsScopeOf}
 use Rattle.fb_half.specs.Matchings.{matched_names}
 use Rattle.fb_half.specs.Parts.{IsPart, PartValue, problem_in}
@@ -176,22 +177,22 @@ module _ (part : PartValue) (root : ℕ) (pair : NearPair) (are : IsPart part) (
 
     pub other_tree : IsTreeOver (scoped s) (bare pair.other) part.nodes
     other_tree =
-        tree_in_scope (bare_search pair.other part) s.graph.now s.plan.now s.node own.graph
+        tree_in_scope (bare_search pair.other part) (scope_graph s) s.plan.now s.node own.graph
         (tree_over (bare_search pair.other part) (searching_bare pair.other part are near.single.listed))
 
     pub other_step : MayStep (scoped s) (alone pair.other) part.nodes pair.other_length
     other_step =
-        step_in_scope (bare_search pair.other part) s.graph.now s.plan.now s.node pair.other_length (alone pair.other) own.graph
+        step_in_scope (bare_search pair.other part) (scope_graph s) s.plan.now s.node pair.other_length (alone pair.other) own.graph
         other_may
 
     pub root_tree : IsTreeOver (scoped s) (bare root) mid.nodes
     root_tree =
-        tree_in_scope (bare_search root mid) s.graph.now s.plan.now s.node own.graph
+        tree_in_scope (bare_search root mid) (scope_graph s) s.plan.now s.node own.graph
         (tree_over (bare_search root mid) (searching_bare root mid mid_is within))
 
     pub root_step : MayStep (scoped s) (alone root) mid.nodes pair.length
     root_step =
-        step_in_scope (bare_search root mid) s.graph.now s.plan.now s.node pair.length (alone root) own.graph root_may
+        step_in_scope (bare_search root mid) (scope_graph s) s.plan.now s.node pair.length (alone root) own.graph root_may
 
     pub pair_between : (a b : ℕ) × IsBetween (scoped s) last.part.nodes pair.edge a b
     pair_between =

@@ -1,5 +1,5 @@
 -- Between searches an unmatched node may grow by an even length: a search that begins there, steps, and is given up again.
-use Rattle.std.proofs.Common.{ℕ, ◌≡◌, ◌+◌, ◌%◌, true, List, [], length, filter, refl, arith}
+use Rattle.std.proofs.Common.{ℕ, ◌≡◌, ◌+◌, ◌%◌, true, List, [], length, filter, refl, subst, arith}
 use Rattle.std.specs.List.{range_with_len}
 use Rattle.fb_graph.specs.Dual.{Node}
 use Rattle.fb_graph.specs.Limits.{DecodingGraph, IsWithinLimits, no_shot}
@@ -8,7 +8,7 @@ use Rattle.fb_graph.specs.Steps.{MayStep, stepped_nodes}
 use Rattle.fb_graph.proofs.Ranges.{filter-range_below, is_in-filter-range}
 use Rattle.fb_laws.specs.StateMoves.{search_from}
 use Rattle.fb_laws.proofs.StateMoves.{search_from_root, state_stepped}
-use Rattle.fb_half.specs.Parts.{IsPart, PartValue, problem_in, state_of}
+use Rattle.fb_half.specs.Parts.{IsPart, PartValue, graph_in, problem_in, state_of}
 use Rattle.fb_plan.specs.Plans.{PlanTree, problem_at}
 use Rattle.fb_trees.specs.Rooted.{bare}
 use Rattle.fb_search.specs.declared.near.Near.{Near}
@@ -78,12 +78,12 @@ part_grown name k part are limits within may even =
 
 -- what is found in the scope of a part's regions holds of the part's sub-problem too, since the defects don't matter
 pub near_in_part : (g : DecodingGraph) (t : PlanTree) (n : ℕ) (w : PartValue) (nodes : List Node) (unmatched : List ℕ)
-    (root : ℕ) (near : Near) → g ≡ w.job.graph → t ≡ w.job.plan → n ≡ w.node → nodes ≡ w.nodes
+    (root : ℕ) (near : Near) → g ≡ graph_in w → t ≡ w.job.plan → n ≡ w.node → nodes ≡ w.nodes
     → unmatched ≡ w.matching.unmatched → IsNear (problem_at g t n no_shot) nodes unmatched root near
     → IsNear (problem_in w) w.nodes w.matching.unmatched root near
 near_in_part g t n w nodes unmatched root (Boundary edge growth) eg et en es eu is =
-    let here : IsNearBoundary (problem_at w.job.graph w.job.plan w.node no_shot) w.nodes root edge growth =
-    rw (← eg, ← et, ← en, ← es) is in
+    let here : IsNearBoundary (problem_at (graph_in w) w.job.plan w.node no_shot) w.nodes root edge growth =
+    subst (λ h. IsNearBoundary (problem_at h w.job.plan w.node no_shot) w.nodes root edge growth) eg (rw (← et, ← en, ← es) is) in
     record {
       inner = here.inner;
       outer = here.outer;
@@ -95,8 +95,8 @@ near_in_part g t n w nodes unmatched root (Boundary edge growth) eg et en es eu 
       room = here.room;
     }
 near_in_part g t n w nodes unmatched root (Pair pair) eg et en es eu is =
-    let here : IsNearPair (problem_at w.job.graph w.job.plan w.node no_shot) w.nodes w.matching.unmatched root pair =
-    rw (← eg, ← et, ← en, ← es, ← eu) is in
+    let here : IsNearPair (problem_at (graph_in w) w.job.plan w.node no_shot) w.nodes w.matching.unmatched root pair =
+    subst (λ h. IsNearPair (problem_at h w.job.plan w.node no_shot) w.nodes w.matching.unmatched root pair) eg (rw (← et, ← en, ← es, ← eu) is) in
     record {
       inner = here.inner;
       outer = here.outer;

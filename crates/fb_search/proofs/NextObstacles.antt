@@ -16,7 +16,7 @@ use Rattle.fb_laws.proofs.JoinedThree.{root_plus}
 use Rattle.fb_laws.proofs.SearchTrees.{cover_place, plus_in_tree}
 use Rattle.fb_plan.specs.Plans.{PlanTree, problem_at}
 use Rattle.fb_trees.proofs.Mapped as mapped
-use Rattle.fb_half.specs.Parts.{shot_of}
+use Rattle.fb_half.specs.Parts.{graph_in, shot_of}
 use Rattle.fb_half.specs.Translations.{link_by}
 use Rattle.fb_obstacles.specs.declared.obstacle.Obstacle.{Obstacle}
 use Rattle.fb_obstacles.specs.Obstacles.{HavePlusParity, IsObstacle, IsWatched, ListsMinus, Obstructs, slack_at}
@@ -65,11 +65,11 @@ module _ (w : SearchValue) (are : IsSearching w) where
       )
 
   -- for the scope of the part, whose problem has no defects
-  module _ (g : DecodingGraph) (t : PlanTree) (n : ℕ) (eg : g ≡ w.part.job.graph) (et : t ≡ w.part.job.plan) (en : n ≡ w.part.node) where
+  module _ (g : DecodingGraph) (t : PlanTree) (n : ℕ) (eg : g ≡ graph_in w.part) (et : t ≡ w.part.job.plan) (en : n ≡ w.part.node) where
     pub next_even : HasNoOddClosed (with_defects (problem_at g t n no_shot) (leaves w.part.nodes))
     next_even =
         rw (eg, et, en)
-        (part_has_no_odd_closed (with_defects (problem_at w.part.job.graph w.part.job.plan w.part.node no_shot) (leaves w.part.nodes))
+        (part_has_no_odd_closed (with_defects (problem_at (graph_in w.part) w.part.job.plan w.part.node no_shot) (leaves w.part.nodes))
         (problem_of w) (record {
           edges = refl;
           real = λ v real. real;
@@ -85,17 +85,17 @@ module _ (w : SearchValue) (are : IsSearching w) where
     pub next_is : (o : Obstacle) → IsObstacle (problem_at g t n no_shot) (roles_in w) w.part.nodes o
         → IsObstacle (problem_of w) (roles_in w) w.part.nodes o
     next_is o is =
-        let there : IsObstacle (problem_at w.part.job.graph w.part.job.plan w.part.node no_shot) (roles_in w) w.part.nodes o =
-        rw (← eg, ← et, ← en) is in
-        obstacle_exchanged (problem_at w.part.job.graph w.part.job.plan w.part.node no_shot) (is_in (shot_of w.part).defects) (roles_in w)
+        let there : IsObstacle (problem_at (graph_in w.part) w.part.job.plan w.part.node no_shot) (roles_in w) w.part.nodes o =
+        subst (λ h. IsObstacle (problem_at h w.part.job.plan w.part.node no_shot) (roles_in w) w.part.nodes o) eg (rw (← et, ← en) is) in
+        obstacle_exchanged (problem_at (graph_in w.part) w.part.job.plan w.part.node no_shot) (is_in (shot_of w.part).defects) (roles_in w)
         w.part.nodes o there
 
     next_stands : (o : Obstacle) → Obstructs (problem_at g t n no_shot) (roles_in w) w.part.nodes o
         → Obstructs (problem_of w) (roles_in w) w.part.nodes o
     next_stands o is =
-        let there : Obstructs (problem_at w.part.job.graph w.part.job.plan w.part.node no_shot) (roles_in w) w.part.nodes o =
-        rw (← eg, ← et, ← en) is in
-        obstructs_exchanged (problem_at w.part.job.graph w.part.job.plan w.part.node no_shot) (is_in (shot_of w.part).defects) (roles_in w)
+        let there : Obstructs (problem_at (graph_in w.part) w.part.job.plan w.part.node no_shot) (roles_in w) w.part.nodes o =
+        subst (λ h. Obstructs (problem_at h w.part.job.plan w.part.node no_shot) (roles_in w) w.part.nodes o) eg (rw (← et, ← en) is) in
+        obstructs_exchanged (problem_at (graph_in w.part) w.part.job.plan w.part.node no_shot) (is_in (shot_of w.part).defects) (roles_in w)
         w.part.nodes o there
 
     pub next_limiting : (N : Type 0) (found : Option Obstacle)
@@ -118,9 +118,11 @@ module _ (w : SearchValue) (are : IsSearching w) where
       matching = are.matching;
       room = room ∙ are.room;
       watch =
-          let here : IsWatched (problem_at w.part.job.graph t n no_shot) (roles_in w) w.part.nodes now.edges = rw (← eg) watched in
+          let here : IsWatched (problem_at (graph_in w.part) t n no_shot) (roles_in w) w.part.nodes now.edges =
+          subst (λ h. IsWatched (problem_at h t n no_shot) (roles_in w) w.part.nodes now.edges) eg watched in
           record { within = here.within; near = λ k less over apart. here.near k less over apart };
       bounds =
-          let here : AreBounded (slack_at (problem_at w.part.job.graph t n no_shot) (roles_in w) w.part.nodes) now = rw (← eg) bounded in
+          let here : AreBounded (slack_at (problem_at (graph_in w.part) t n no_shot) (roles_in w) w.part.nodes) now =
+          subst (λ h. AreBounded (slack_at (problem_at h t n no_shot) (roles_in w) w.part.nodes) now) eg bounded in
           λ i less. here i less;
     }

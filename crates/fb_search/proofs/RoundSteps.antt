@@ -14,7 +14,7 @@ use Rattle.fb_search.specs.Progress.{HasSearchedEach, IsSamePart}
 use Rattle.fb_search.proofs.Runs.{same_problem}
 use Rattle.fb_search.proofs.SearchedEach.{gone}
 
-same_trans : (before now after : PartValue) → IsSamePart before now → IsSamePart now after → IsSamePart before after
+pub same_trans : (before now after : PartValue) → IsSamePart before now → IsSamePart now after → IsSamePart before after
 same_trans before now after was is = record {
   job = is.job ∙ was.job;
   slot = is.slot ∙ was.slot;

@@ -14,7 +14,8 @@ use Rattle.fb_graph.proofs.Walks.{walk_same}
 use Rattle.fb_links.specs.declared.walk.Step.{Step}
 use Rattle.fb_plan.specs.Plans.{problem_at}
 use Rattle.fb_plan.specs.declared.scope.NodeScope.{NodeScope}
-use Rattle.fb_half.specs.Parts.{AreStepsOf, PartValue, problem_in, shot_of}
+use Rattle.fb_plan.specs.Scopes.{scope_problem}
+use Rattle.fb_half.specs.Parts.{AreStepsOf, PartValue, graph_in, problem_in, shot_of}
 use Rattle.fb_half.specs.Translations.{link_of}
 use Rattle.fb_half.specs.Values.{IsScopeOf}
 use Rattle.fb_trees.specs.InternalMetWalks.{IsBetween, IsMetWalk, IsOut, IsOutWalk, IsRealStep, IsTightWalk}
@@ -85,14 +86,14 @@ between_them p nodes k u v a b is at_u at_v apart = by is.leads
 
 -- the problem of the scope
 abbrev pub scoped : NodeScope → Problem
-scoped s = problem_at s.graph.now s.plan.now s.node no_shot
+scoped s = scope_problem s
 
 module _ (w : PartValue) (s : NodeScope) (own : IsScopeOf s w) where
-  scope_is : scoped s ≡ problem_at w.job.graph w.job.plan w.node no_shot
+  scope_is : scoped s ≡ problem_at (graph_in w) w.job.plan w.node no_shot
   scope_is = same_scope _ _ _ _ _ _ own.graph own.plan own.node
 
   abbrev bare_problem : Problem
-  bare_problem = problem_at w.job.graph w.job.plan w.node no_shot
+  bare_problem = problem_at (graph_in w) w.job.plan w.node no_shot
 
   between_bare : (k a b : ℕ) → IsBetween (problem_in w) w.nodes k a b → IsBetween (scoped s) w.nodes k a b
   between_bare k a b is =

@@ -17,10 +17,11 @@ use Rattle.fb_laws.specs.Works.{IsSetOf}
 use Rattle.fb_laws.proofs.HalvesKept.{odd_of_part}
 use Rattle.fb_laws.proofs.SearchStates.{named_set}
 use Rattle.fb_laws.proofs.SearchTrees.{cover_place, minus_in_tree, plus_in_tree}
-use Rattle.fb_plan.proofs.SubProblems.{node_has_no_odd_closed}
+use Rattle.fb_plan.proofs.ShotPlans.{shot_even}
 use Rattle.fb_regions.specs.declared.roles.Role.TheVariants.{Plus, Minus, Out}
 use Rattle.fb_trees.proofs.Mapped as mapped
 use Rattle.fb_half.specs.Translations.{entry_by, link_by}
+use Rattle.fb_half.specs.Parts.{shot_of}
 use Rattle.fb_obstacles.specs.Obstacles.{grows, shrinks}
 use Rattle.fb_search.specs.InternalSearching.{IsSearching, SearchValue, problem_of, roles_in, state_at}
 use Rattle.fb_trees.specs.InternalSteps.{IsTreeOver}
@@ -88,7 +89,7 @@ module _ (w : SearchValue) (are : IsSearching w) where
   -- no sub-problem of a shot that has a correction has an odd closed set
   pub no_odd_closed : HasNoOddClosed (problem_of w)
   no_odd_closed =
-      node_has_no_odd_closed w.part.job.graph w.part.job.plan w.part.node _ (are.job.even w.part.slot no_shot are.slot)
+      shot_even w.part.job.graph w.part.job.plan w.part.node (shot_of w.part) (are.job.even w.part.slot no_shot are.slot)
 
   -- an edge leaves each live node
   pub crossed : (name : ℕ) → is_live w.part.nodes name ≡ true → IsCrossed (problem_of w) (top_at w.part.nodes name)

@@ -5,7 +5,7 @@ use Rattle.fb_links.specs.declared.cycle.CycleStep.{CycleStep}
 use Rattle.fb_search.specs.InternalOpenings.{between_on, couples_on}
 
 -- two elements more
-two_more : {X : Type 0} (xs : List X) (i : ℕ) (d : X) → i + 1 < length xs
+pub two_more : {X : Type 0} (xs : List X) (i : ℕ) (d : X) → i + 1 < length xs
     → drop i xs ≡ get_or xs i d ∷ get_or xs (i + 1) d ∷ drop (i + 2) xs
 two_more xs i d lt =
     let next : i + 1 + 1 ≡ i + 2 = omega arith in

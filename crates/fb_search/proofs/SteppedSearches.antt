@@ -23,7 +23,7 @@ use Rattle.fb_laws.proofs.StateMoves.{state_stepped}
 use Rattle.fb_regions.proofs.Readings.{height-le}
 use Rattle.fb_trees.proofs.Mapped.{plus_moved}
 use Rattle.fb_half.specs.Matchings.{IsMatchOf, match_links}
-use Rattle.fb_half.specs.Parts.{AreLinksOf}
+use Rattle.fb_half.specs.Parts.{AreLinksOf, graph_in}
 use Rattle.fb_half.specs.Translations.{entry_by, link_by}
 use Rattle.fb_obstacles.specs.Obstacles.{IsWatched, slack_at}
 use Rattle.fb_obstacles.specs.Watched.{AreBounded}
@@ -151,7 +151,7 @@ length_fits w k are after may =
     omega (arith, least, height-le (problem_of w) (stepped_nodes roles k w.part.nodes) d after.state.1.search.nest)
 
 -- The problem of the part's scope has no defects; a step doesn't ask for them.
-pub tree_in_scope : (w : SearchValue) (g : DecodingGraph) (t : PlanTree) (n : ℕ) → g ≡ w.part.job.graph
+pub tree_in_scope : (w : SearchValue) (g : DecodingGraph) (t : PlanTree) (n : ℕ) → g ≡ graph_in w.part
     → IsTreeOver (problem_of w) w.tree w.part.nodes → IsTreeOver (problem_at g t n no_shot) w.tree w.part.nodes
 tree_in_scope w g t n eg over =
     rw eg (record {
@@ -163,7 +163,7 @@ tree_in_scope w g t n eg over =
       crossed = λ name plus. over.crossed name plus;
     })
 
-pub step_in_scope : (w : SearchValue) (g : DecodingGraph) (t : PlanTree) (n k : ℕ) (roles : Roles) → g ≡ w.part.job.graph
+pub step_in_scope : (w : SearchValue) (g : DecodingGraph) (t : PlanTree) (n k : ℕ) (roles : Roles) → g ≡ graph_in w.part
     → MayStep (problem_of w) roles w.part.nodes k → MayStep (problem_at g t n no_shot) roles w.part.nodes k
 step_in_scope w g t n k roles eg may = rw eg (record { edges = may.edges; tops = may.tops })
 

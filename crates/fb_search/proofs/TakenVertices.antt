@@ -22,7 +22,7 @@ use Rattle.fb_regions.specs.Moves.{absorbed_over, inner_end, outer_end}
 use Rattle.fb_trees.proofs.Mapped.{plus_moved}
 use Rattle.fb_trees.proofs.TightWalks.{ends_told}
 use Rattle.fb_plan.specs.Plans.{PlanTree, problem_at}
-use Rattle.fb_half.specs.Parts.{PartValue, problem_in}
+use Rattle.fb_half.specs.Parts.{PartValue, graph_in, problem_in}
 use Rattle.fb_half.specs.Translations.{link_by}
 use Rattle.fb_obstacles.specs.Obstacles.{IsAbsorb, IsWatched, slack_at}
 use Rattle.fb_obstacles.specs.InternalWatching.{WatchesTaken}
@@ -189,8 +189,9 @@ absorbs_some w k (u, v, is) = absorbs w k u v is
 
 -- what is watched by the problem of the part, though that of its node's scope has no defects
 pub kept_taken : (part : PartValue) (g : DecodingGraph) (t : PlanTree) (n taken v : ℕ) (now later nodes : List Node)
-    (old new : Watched) → g ≡ part.job.graph → taken ≡ v → now ≡ later → later ≡ nodes
+    (old new : Watched) → g ≡ graph_in part → taken ≡ v → now ≡ later → later ≡ nodes
     → WatchesTaken (problem_at g t n no_shot) now taken old new → WatchesTaken (problem_in part) nodes v old new
 kept_taken part g t n taken v now later nodes old new eg at same is watches =
-    let w : WatchesTaken (problem_at part.job.graph t n no_shot) nodes v old new = rw (← eg, ← at, ← is, ← same) watches in
+    let w : WatchesTaken (problem_at (graph_in part) t n no_shot) nodes v old new =
+    subst (λ h. WatchesTaken (problem_at h t n no_shot) nodes v old new) eg (rw (← at, ← is, ← same) watches) in
     record { room = w.room; watched = w.watched; bounds = w.bounds }

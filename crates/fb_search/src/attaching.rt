@@ -9,7 +9,7 @@ ghost use Rattle.fb_search.specs.InternalProgress.{EndsWith, GoesOn};
 ghost use Rattle.fb_search.specs.InternalSearching.{IsSearching, SearchValue, search_of};
 ghost use Rattle.fb_search.specs.InternalOutcomes.{HasCleared};
 
-use crate::ending::{forget_tree, match_tree};
+use crate::ending::end_tree;
 use crate::outcome::{Outcome, ended, going_on};
 use crate::pieces::{into_searching, into_work};
 use crate::scratch::Scratch;
@@ -174,7 +174,6 @@ fn match_released(alloc: Global, pieces: &mut Pieces<'_>, met: Met) -> Result<()
         first: met.plus,
         second: Some(met.other),
     };
-    match_tree(alloc, &mut parts.matching, tree, out)?;
-    forget_tree(alloc, &mut parts.links, tree, met.plus)?;
+    end_tree(alloc, &mut parts.matching, &mut parts.links, tree, out)?;
     Ok(())
 }

@@ -8,7 +8,6 @@ use crate::searching::Searching;
 use fb_graph::Scope;
 use fb_half::Work;
 use fb_obstacles::watch_node;
-use fb_plan::NodeScope;
 use fb_regions::NodeId;
 
 impl<'a> Searching<'a> {
@@ -27,11 +26,7 @@ impl<'a> Searching<'a> {
         } = scratch;
         watch.clear();
         let parts = work.into_parts();
-        let scope = NodeScope {
-            graph: parts.job().graph(),
-            plan: parts.job().plan(),
-            node: parts.node(),
-        };
+        let scope = *parts.regions.scope();
         scope.limits();
         watch_node(&mut watch, &scope, &parts.regions, root);
         watch.keeps();

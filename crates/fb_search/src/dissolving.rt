@@ -4,7 +4,7 @@ ghost use Rattle.fb_search.specs.InternalPieces.{AreDissolved};
 ghost use Rattle.fb_search.specs.InternalRounds.{HasEvenRoot, IsDissolved, IsRootPotential};
 ghost use Rattle.fb_search.specs.InternalSearching.{IsSearching, search_of};
 
-use crate::ending::{add_matches, forget_tree, matches_at_end};
+use crate::ending::{add_matches, forget_all, tree_end};
 use crate::pieces::into_work;
 use crate::scratch::Scratch;
 use crate::searching::{Pieces, Searching};
@@ -43,8 +43,8 @@ fn dissolve_tree(alloc: Global, pieces: &mut Pieces<'_>) -> Result<(), NoMemory>
 {
     let Pieces { parts, tree, .. } = pieces;
     let root = tree.root();
-    let matches = matches_at_end(alloc, tree, root)?;
-    add_matches(alloc, &mut parts.matching, &matches)?;
-    forget_tree(alloc, &mut parts.links, tree, root)?;
+    let end = tree_end(alloc, tree, root)?;
+    forget_all(&mut parts.links, &end.gone);
+    add_matches(alloc, &mut parts.matching, &end.matches)?;
     Ok(())
 }

@@ -8,7 +8,7 @@ ghost use Rattle.fb_search.specs.InternalTightEdges.{LeadsOut, Meets};
 ghost use Rattle.fb_search.specs.InternalProgress.{EndsWith};
 ghost use Rattle.fb_search.specs.InternalSearching.{IsSearching, problem_of, roles_in, search_of, unmatched_in};
 
-use crate::ending::{forget_tree, match_tree};
+use crate::ending::end_tree;
 use crate::pieces::into_work;
 use crate::scratch::Scratch;
 use crate::searching::{Pieces, Searching};
@@ -78,8 +78,7 @@ fn match_out(
         first: plus,
         second: None,
     };
-    match_tree(alloc, &mut parts.matching, tree, out)?;
-    forget_tree(alloc, &mut parts.links, tree, plus)?;
+    end_tree(alloc, &mut parts.matching, &mut parts.links, tree, out)?;
     Ok(())
 }
 
@@ -107,7 +106,6 @@ fn match_over(
         first: plus,
         second: Some(other),
     };
-    match_tree(alloc, &mut parts.matching, tree, out)?;
-    forget_tree(alloc, &mut parts.links, tree, plus)?;
+    end_tree(alloc, &mut parts.matching, &mut parts.links, tree, out)?;
     Ok(())
 }

@@ -6,7 +6,6 @@ ghost use Rattle.fb_search.specs.InternalProgress.{GoesOn};
 use crate::searching::Searching;
 use fb_graph::Scope;
 use fb_obstacles::{free_end, watch_taken};
-use fb_plan::NodeScope;
 use fb_regions::NodeId;
 
 impl Searching<'_> {
@@ -17,11 +16,7 @@ impl Searching<'_> {
         ensures { GoesOn self.old self.new }
     {
         let Searching { parts, watch, .. } = self;
-        let scope = NodeScope {
-            graph: parts.job().graph(),
-            plan: parts.job().plan(),
-            node: parts.node(),
-        };
+        let scope = *parts.regions.scope();
         scope.limits();
         let taken = free_end(&scope, &parts.regions, edge);
         parts.regions.absorb(edge);

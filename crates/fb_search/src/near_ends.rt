@@ -1,6 +1,6 @@
 //! The ways in which a single defect is matched at once.
 
-ghost use Rattle.std.specs.Prelude.{◌≡◌, true, IfOk, IfSome, OnOk};
+ghost use Rattle.std.specs.Prelude.{◌≡◌, true, false, IfOk, IfSome, OnOk};
 ghost use Rattle.fb_graph.specs.Parity.{is_in};
 ghost use Rattle.fb_graph.specs.Steps.{MayStep, stepped_nodes};
 ghost use Rattle.fb_half.specs.Parts.{IsPart, problem_in};
@@ -14,7 +14,7 @@ ghost use Rattle.fb_search.specs.Progress.{IsSearched};
 use crate::ending::add_matches;
 use crate::near::{Near, NearPair, near_of};
 use fb_graph::{NoMemory, Scope};
-use fb_half::{Match, Parts, Work, far_owner};
+use fb_half::{Match, Parts, far_owner};
 use fb_regions::{NodeId, Regions};
 use fb_trees::{link_between, link_out};
 use std::alloc::Global;
@@ -99,28 +99,33 @@ fn match_by(alloc: Global, parts: &mut Parts<'_>, root: NodeId, near: Near) -> R
     }
 }
 
-/// How the root can be matched at once, if it can.
-pub(crate) fn near_in(work: &Work<'_>, root: NodeId) -> Option<Near>
-    requires { is_in work.now.matching.unmatched root ≡ true }
-    ensures { IfSome result (IsNear (problem_in work.now) work.now.nodes work.now.matching.unmatched root) }
+/// Matches the root at once, in place, if that is possible, and returns whether it is.
+pub(crate) fn match_near(
+    alloc: Global,
+    parts: &mut Parts<'_>,
+    root: NodeId,
+) -> Result<bool, NoMemory>
+    requires scope { HasScope parts.old }
+    requires part { IsPart (part_of parts.old) }
+    requires unmatched { is_in parts.old.matching.unmatched root ≡ true }
+    ensures scope { OnOk result (HasScope parts.new) }
+    ensures part { OnOk result (IsPart (part_of parts.new)) }
+    ensures matched { IfOk result (λ is. is ≡ true → IsSearched root (part_of parts.old) (part_of parts.new)) }
+    ensures unchanged { IfOk result (λ is. is ≡ false → part_of parts.new ≡ part_of parts.old) }
 {
-    work.keeps();
-    near_of(work.regions(), work.matching(), root)
+    let Some(near) = near_in(parts, root) else {
+        return Ok(false);
+    };
+    match_by(alloc, parts, root, near)?;
+    Ok(true)
 }
 
-/// Matches the root at once, in this way.
-pub(crate) fn match_near<'a>(
-    alloc: Global,
-    work: Work<'a>,
-    root: NodeId,
-    near: Near,
-) -> Result<Work<'a>, NoMemory>
-    requires unmatched { is_in work.matching.unmatched root ≡ true }
-    requires near { IsNear (problem_in work) work.nodes work.matching.unmatched root near }
-    ensures { IfOk result (IsSearched root work.entry) }
+/// How the root can be matched at once, if it can.
+fn near_in(parts: &Parts<'_>, root: NodeId) -> Option<Near>
+    requires scope { HasScope parts.now }
+    requires part { IsPart (part_of parts.now) }
+    requires unmatched { is_in parts.now.matching.unmatched root ≡ true }
+    ensures { IfSome result (IsNear (problem_in (part_of parts.now)) parts.now.regions.nodes parts.now.matching.unmatched root) }
 {
-    work.keeps();
-    let mut parts = work.into_parts();
-    let parts = match_by(alloc, &mut parts, root, near).and(Ok(parts))?;
-    Ok(Work::from_parts(parts))
+    near_of(&parts.regions, &parts.matching, root)
 }

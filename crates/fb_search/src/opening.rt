@@ -1,6 +1,6 @@
-ghost use Rattle.std.specs.Prelude.{◌≡◌, ◌≢◌, ◌<◌, ℕ, true, ◌∷◌, Some, IfOk, OnOk, length};
-ghost use Rattle.fb_graph.specs.Dual.{cover_of};
-ghost use Rattle.fb_blossoms.specs.Nodes.{is_on};
+ghost use Rattle.std.specs.Prelude.{◌≡◌, ◌<◌, ℕ, true, false, ◌∷◌, IfOk, OnOk, length};
+ghost use Rattle.fb_graph.specs.Parity.{is_in};
+ghost use Rattle.fb_blossoms.specs.Nodes.{IsOuter, defects_at, is_on};
 ghost use Rattle.fb_half.specs.Values.{HasScope, part_of};
 ghost use Rattle.fb_obstacles.specs.Obstacles.{Obstructs};
 ghost use Rattle.fb_obstacles.specs.declared.obstacle.Obstacle.TheVariants.{BlossomEmpty};
@@ -12,10 +12,11 @@ ghost use Rattle.fb_search.specs.InternalSearching.{IsSearching, problem_of, rol
 use crate::ending::{add_matches, forget_all};
 use crate::pieces::into_searching;
 use crate::searching::{Pieces, Searching};
+use fb_blossoms::Blossoms;
 use fb_graph::{NoMemory, Scope};
 use fb_half::{Match, Parts};
 use fb_obstacles::watch_node;
-use fb_regions::{NodeId, Regions};
+use fb_regions::NodeId;
 use fb_trees::{CycleStep, LinkId};
 use std::alloc::Global;
 
@@ -67,17 +68,19 @@ fn child_at(parts: &Parts, node: NodeId, link: LinkId) -> NodeId
 {
     parts.blossoms.keeps();
     let (from, to) = parts.links.ends(link);
-    let end = end_under(&parts.regions, node, from, to);
+    let end = end_under(&parts.blossoms, node, from, to);
     parts.blossoms.child_holding(node, end)
 }
 
-/// The first of the two vertices if the outer node holds it, otherwise the second.
-fn end_under<S: Scope>(regions: &Regions<S>, node: NodeId, first: u32, second: u32) -> u32
-    ensures first { cover_of regions.now.nodes first ≡ Some node → result ≡ first }
-    ensures second { cover_of regions.now.nodes first ≢ Some node → result ≡ second }
+/// The first of the two vertices if it is a defect in the outer node, otherwise the second.
+fn end_under(blossoms: &Blossoms, node: NodeId, first: u32, second: u32) -> u32
+    requires { IsOuter blossoms.now node }
+    ensures first { is_in (defects_at blossoms.now node) first ≡ true → result ≡ first }
+    ensures second { is_in (defects_at blossoms.now node) first ≡ false → result ≡ second }
 {
-    match regions.cover_of(first) {
-        Some(outer) if outer == node => first,
+    blossoms.keeps();
+    match blossoms.leaf_of(first) {
+        Some(leaf) if blossoms.outer_of(leaf) == node => first,
         _ => second,
     }
 }

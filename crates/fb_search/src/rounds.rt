@@ -1,19 +1,20 @@
-ghost use Rattle.std.specs.Prelude.{◌≡◌, ◌<◌, ◌∷◌, ◌++◌, ◌≤◌, ℕ, List, [], true, None, Some, IfOk, IfSome, OnErr, OnOk, length, option_to_list};
+ghost use Rattle.std.specs.Prelude.{◌≡◌, ◌<◌, ◌∷◌, ◌++◌, ◌≤◌, ℕ, List, [], true, None, Some, IfOk, IfSome, OnErr, OnOk, drop, get_or, length, option_to_list};
 ghost use Rattle.fb_graph.specs.Dual.{is_live};
 ghost use Rattle.fb_graph.specs.Parity.{is_in};
-ghost use Rattle.fb_half.specs.Parts.{problem_in};
+ghost use Rattle.fb_half.specs.Parts.{IsPart, problem_in};
+ghost use Rattle.fb_half.specs.Values.{HasScope, part_of};
 ghost use Rattle.fb_obstacles.specs.Obstacles.{IsObstacle};
 ghost use Rattle.fb_search.specs.InternalPaces.{IsEndedWithin, IsSpent};
 ghost use Rattle.fb_search.specs.InternalRounds.{HasSearchedSome, steps_with};
 ghost use Rattle.fb_search.specs.InternalSearching.{problem_of, roles_in};
 
-use crate::near_ends::{match_near, near_in};
+use crate::near_ends::match_near;
 use crate::outcome::Outcome;
 use crate::scratch::Scratch;
 use crate::searching::Searching;
 use fb_graph::{NoMemory, Scope, Steps};
 use fb_half::both::both;
-use fb_half::{Standing, Work};
+use fb_half::{Parts, Standing, Work};
 use fb_obstacles::Obstacle;
 use fb_regions::{NodeId, Regions};
 use std::alloc::Global;
@@ -122,9 +123,35 @@ fn finish_within<'a, L: Ledger>(
     }
 }
 
-/// Matches the root at once if that is possible, or else by a tree that grows from it. With a factor the tree is given up
-/// when it would grow by more than the root's first limit times the factor, if the root's potential is even then.
-pub(crate) fn match_within<'a>(
+/// Matches the root at once if that is possible, or else by a tree that grows from it.
+pub(crate) fn match_one<'a>(
+    alloc: Global,
+    work: Work<'a>,
+    root: NodeId,
+    scratch: Scratch,
+) -> Result<Bounded<'a>, NoMemory>
+    requires unmatched { is_in work.matching.unmatched root ≡ true }
+    requires room { scratch.edge_count ≡ length (problem_in work).edges }
+    ensures { IfOk result (IsEndedWithin None root work.entry scratch.edge_count) }
+{
+    work.keeps();
+    let mut parts = work.into_parts();
+    let near = match_near(alloc, &mut parts, root);
+    let (is_matched, (parts, scratch)) = both(near, (parts, scratch))?;
+    let work = Work::from_parts(parts);
+    if is_matched {
+        return Ok(Bounded {
+            work,
+            scratch,
+            left: None,
+        });
+    }
+    grow_within(alloc, work, root, None, scratch)
+}
+
+/// Matches the root by a tree that grows from it. With a factor the tree is given up when it would grow by more than the
+/// root's first limit times the factor, if the root's potential is even then.
+fn grow_within<'a>(
     alloc: Global,
     work: Work<'a>,
     root: NodeId,
@@ -135,14 +162,6 @@ pub(crate) fn match_within<'a>(
     requires room { scratch.edge_count ≡ length (problem_in work).edges }
     ensures { IfOk result (IsEndedWithin factor root work.entry scratch.edge_count) }
 {
-    if let Some(near) = near_in(&work, root) {
-        let (work, scratch) = both(match_near(alloc, work, root, near), scratch)?;
-        return Ok(Bounded {
-            work,
-            scratch,
-            left: None,
-        });
-    }
     work.keeps();
     let limit = limit_by(work.regions(), root, factor);
     let search = Searching::begin(work, scratch, root);
@@ -158,7 +177,7 @@ fn limit_by<S: Scope>(regions: &Regions<S>, node: NodeId, factor: Option<u64>) -
     Some(first_limit(regions, node).saturating_mul(factor))
 }
 
-/// Searches from the root until it is matched or its tree is given up. Counts one step if the root is matched, or else
+/// Grows a tree from the root until it is matched or the tree is given up. Counts one step if the root is matched, or else
 /// none.
 fn search_within<'a, L: Ledger>(
     alloc: Global,
@@ -179,7 +198,7 @@ fn search_within<'a, L: Ledger>(
         work,
         scratch,
         left,
-    } = match_within(alloc, work, root, factor, scratch)?;
+    } = grow_within(alloc, work, root, factor, scratch)?;
     if let Some(name) = left {
         return Ok(Bounded {
             work,
@@ -209,8 +228,8 @@ fn first_limit<S: Scope>(regions: &Regions<S>, node: NodeId) -> u64
     2 * (heaviest / 4).max(1)
 }
 
-/// A search from each of the nodes that is still unmatched when its turn comes, within its first limit times the factor,
-/// if there is one.
+/// A search from each of the nodes that is still unmatched when its turn comes: at once if that is possible, or else by a
+/// tree, within the root's first limit times the factor, if there is one.
 pub(crate) fn search_round<'a, L: Ledger>(
     alloc: Global,
     work: Work<'a>,
@@ -230,13 +249,90 @@ pub(crate) fn search_round<'a, L: Ledger>(
         scratch,
         left: Vec::new(alloc),
     };
-    for root in roots {
-        round = search_next(alloc, round, *root, factor, steps)?;
+    let mut at = 0;
+    while at < roots.len() {
+        let (waiting, near) = match_run(alloc, round, roots, at, steps)?;
+        if waiting >= roots.len() {
+            return Ok(near);
+        }
+        round = search_next(alloc, near, roots[waiting], factor, steps)?;
+        at = waiting + 1;
     }
     Ok(round)
 }
 
-/// The round with a search from this root, if it is still unmatched.
+/// The round with each of the roots from the place on that is still unmatched matched at once, up to the first one that
+/// can't be, and the place of that one, or the number of roots. The part is taken apart once for all of them.
+fn match_run<'a, L: Ledger>(
+    alloc: Global,
+    round: Round<'a>,
+    roots: &[NodeId],
+    from: usize,
+    steps: &mut Steps<L>,
+) -> Result<(usize, Round<'a>), NoMemory>
+    requires { from ≤ length roots.now }
+    ensures from { IfOk result (λ r. from ≤ r.0) }
+    ensures within { IfOk result (λ r. r.0 ≤ length roots.now) }
+    ensures searched { IfOk result (λ r. HasSearchedSome round.entry.work (drop from roots.now) steps.old steps.new
+        (drop r.0 roots.now) r.1.work) }
+    ensures waits { IfOk result (λ r. r.0 < length roots.now → is_in r.1.work.matching.unmatched (get_or roots.now r.0 0) ≡ true) }
+    ensures left { IfOk result (λ r. r.1.left.items ≡ round.entry.left.items) }
+    ensures room { IfOk result (λ r. r.1.scratch.edge_count ≡ round.entry.scratch.edge_count) }
+    ensures never_falls { steps.old ≤ steps.new }
+{
+    let Round {
+        work,
+        mut scratch,
+        left,
+    } = round;
+    work.keeps();
+    let mut parts = work.into_parts();
+    let run = match_while_near(alloc, &mut parts, &mut scratch, &roots[from..], steps);
+    let (count, (parts, scratch, left)) = both(run, (parts, scratch, left))?;
+    Ok((
+        from + count,
+        Round {
+            work: Work::from_parts(parts),
+            scratch,
+            left,
+        },
+    ))
+}
+
+/// Matches each of the roots that is still unmatched at once, in place, up to the first one that can't be, and returns how
+/// many come before it.
+fn match_while_near<L: Ledger>(
+    alloc: Global,
+    parts: &mut Parts<'_>,
+    scratch: &mut Scratch,
+    roots: &[NodeId],
+    steps: &mut Steps<L>,
+) -> Result<usize, NoMemory>
+    requires scope { HasScope parts.old }
+    requires part { IsPart (part_of parts.old) }
+    ensures scope { OnOk result (HasScope parts.new) }
+    ensures part { OnOk result (IsPart (part_of parts.new)) }
+    ensures within { IfOk result (λ count. count ≤ length roots.now) }
+    ensures searched { IfOk result (λ count. HasSearchedSome (part_of parts.old) roots.now steps.old steps.new
+        (drop count roots.now) (part_of parts.new)) }
+    ensures waits { IfOk result (λ count. count < length roots.now → is_in parts.new.matching.unmatched (get_or roots.now count 0) ≡ true) }
+    ensures same { scratch.new ≡ scratch.old }
+    ensures never_falls { steps.old ≤ steps.new }
+{
+    for (i, root) in roots.iter().enumerate() {
+        let Standing::Unmatched(_) = parts.matching.standing(*root) else {
+            continue;
+        };
+        if !match_near(alloc, parts, *root)? {
+            return Ok(i);
+        }
+        scratch.count_match();
+        steps.tick();
+    }
+    Ok(roots.len())
+}
+
+/// The round with a tree from this root.
 fn search_next<'a, L: Ledger>(
     alloc: Global,
     round: Round<'a>,
@@ -244,15 +340,13 @@ fn search_next<'a, L: Ledger>(
     factor: Option<u64>,
     steps: &mut Steps<L>,
 ) -> Result<Round<'a>, NoMemory>
-    requires { round.scratch.edge_count ≡ length (problem_in round.work).edges }
+    requires unmatched { is_in round.work.matching.unmatched root ≡ true }
+    requires room { round.scratch.edge_count ≡ length (problem_in round.work).edges }
     ensures searched { IfOk result (λ r. (more : List ℕ) × (r.left.items ≡ round.entry.left.items ++ more)
         × HasSearchedSome round.entry.work (root ∷ []) steps.old steps.new more r.work × (factor ≡ None → more ≡ [])) }
     ensures room { IfOk result (λ r. r.scratch.edge_count ≡ round.entry.scratch.edge_count) }
     ensures never_falls { steps.old ≤ steps.new }
 {
-    let Standing::Unmatched(_) = round.work.matching().standing(root) else {
-        return Ok(round);
-    };
     let Round {
         work,
         scratch,

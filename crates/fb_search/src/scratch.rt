@@ -45,6 +45,13 @@ impl Scratch {
         self.matched
     }
 
+    /// One search more has matched its root with it.
+    pub(crate) fn count_match(&mut self)
+        ensures { self.new ≡ self.old }
+    {
+        self.matched = self.matched.saturating_add(1);
+    }
+
     /// The same, with this number of searches that have matched their root.
     pub(crate) fn with_matched(self, matched: u64) -> Scratch
         ensures { result ≡ self }

@@ -3,7 +3,7 @@ ghost use Rattle.fb_graph.specs.Parity.{is_in};
 ghost use Rattle.fb_half.specs.Parts.{problem_in};
 ghost use Rattle.fb_search.specs.Progress.{HasSearchedEach, IsSearched};
 
-use crate::rounds::{Round, match_within, search_round, search_rounds};
+use crate::rounds::{Round, match_one, search_round, search_rounds};
 use crate::scratch::Scratch;
 use fb_graph::{NoMemory, Steps};
 use fb_half::Work;
@@ -57,7 +57,7 @@ pub fn search_from<'a, L: Ledger>(
     ensures kept { OnErr result (steps.new ≡ steps.old) }
 {
     let matched = scratch.matched().saturating_add(1);
-    let bounded = match_within(alloc, work, root, None, scratch)?;
+    let bounded = match_one(alloc, work, root, scratch)?;
     steps.tick();
     Ok((bounded.work, bounded.scratch.with_matched(matched)))
 }

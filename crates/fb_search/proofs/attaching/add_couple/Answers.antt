@@ -1,4 +1,5 @@
 use Rattle.std.proofs.Common.{ap, ◌∙◌}
+use Rattle.fb_plan.specs.Scopes.{scope_graph}
 use Rattle.fb_graph.specs.Limits.{IsWithinLimits}
 use Rattle.fb_half.specs.Parts.{problem_in}
 use Rattle.fb_half.specs.Values.{part_of}
@@ -28,7 +29,7 @@ pub returns : goal.returns
 returns c w met =
     let scope = c.requires.scope in
     let part = part_of c.args.pieces.now.parts in
-    let graph = ap (λ s. s.graph.now) c.scope-scope.ensures ∙ scope.graph in
+    let graph = ap scope_graph c.scope-scope.ensures ∙ scope.graph in
     let plan = ap (λ s. s.plan.now) c.scope-scope.ensures ∙ scope.plan in
     let node = ap (λ s. s.node) c.scope-scope.ensures ∙ scope.node in
     let limits : IsWithinLimits (problem_in part) = kept_limits part _ _ _ graph plan node c.limits.ensures in

@@ -6,19 +6,19 @@ use Rattle.fb_search.proofs.attaching.match_released.Goals as goal
 pub forget-requires : goal.forget-requires
 forget-requires c = taken_live c.requires.met.0 c.args.met _ c.requires.met.1 c.requires.boundary
 
-pub match_tree-requires-clause-distinct : goal.match_tree-requires-clause-distinct
-match_tree-requires-clause-distinct c =
+pub end_tree-requires-clause-distinct : goal.end_tree-requires-clause-distinct
+end_tree-requires-clause-distinct c =
     names_distinct c.requires.met.0 c.args.met _ c.requires.met.1 c.requires.boundary c.take_unmatched.new.self
     c.take_unmatched.ensures.matches
     (subst (λ n. IsPermutation c.args.pieces.now.parts.matching.unmatched (n ∷ c.take_unmatched.new.self.unmatched)) c.root.ensures
     c.take_unmatched.ensures.unmatched)
 
-pub forget_tree-requires-clause-live : goal.forget_tree-requires-clause-live
-forget_tree-requires-clause-live c =
+pub end_tree-requires-clause-live : goal.end_tree-requires-clause-live
+end_tree-requires-clause-live c =
     dropped_still c.requires.met.0 c.args.met _ c.requires.met.1 c.requires.boundary c.forget.new.self c.forget.ensures
 
-pub forget_tree-requires-clause-distinct : goal.forget_tree-requires-clause-distinct
-forget_tree-requires-clause-distinct c = dropped_distinct c.requires.met.0 c.args.met _ c.requires.met.1 c.requires.boundary
+pub end_tree-requires-clause-once : goal.end_tree-requires-clause-once
+end_tree-requires-clause-once c = dropped_distinct c.requires.met.0 c.args.met _ c.requires.met.1 c.requires.boundary
 
 pub returns : goal.returns
 returns c w met =
@@ -27,8 +27,8 @@ returns c w met =
     part_released w c.args.met _ met c.requires.boundary c.take_unmatched.new.self c.take_unmatched.ensures.matches
     (subst (λ n. IsPermutation c.args.pieces.now.parts.matching.unmatched (n ∷ c.take_unmatched.new.self.unmatched)) c.root.ensures
     c.take_unmatched.ensures.unmatched)
-    c.forget.new.self c.forget_tree.new.links c.match_tree.new.matching c.forget.ensures c.in_ok-forget_tree.ensures
-    c.in_ok-match_tree.ensures in
+    c.forget.new.self c.end_tree.new.links c.end_tree.new.matching c.forget.ensures c.in_ok-end_tree.ensures.links
+    c.in_ok-end_tree.ensures.matches in
     record {
       scope = record {
         graph = scope.graph;
@@ -36,8 +36,8 @@ returns c w met =
         node = scope.node;
         listed =
             released_listed w c.args.met _ met c.requires.boundary c.args.pieces.now.parts.seams scope.listed c.take_unmatched.new.self
-            c.take_unmatched.ensures.matches c.forget.new.self c.forget_tree.new.links c.match_tree.new.matching c.forget.ensures
-            c.in_ok-forget_tree.ensures c.in_ok-match_tree.ensures;
+            c.take_unmatched.ensures.matches c.forget.new.self c.end_tree.new.links c.end_tree.new.matching c.forget.ensures
+            c.in_ok-end_tree.ensures.links c.in_ok-end_tree.ensures.matches;
       };
       part = released.0;
       ends = record { searched = released.1; room = ap (λ s. s.watched.edge_count) met.is };

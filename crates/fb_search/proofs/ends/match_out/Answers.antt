@@ -29,28 +29,24 @@ far_owner-owner-requires-clause-ends c =
     (subst (λ s. IsScopeOf s w.part) (sym c.scope-2.ensures) is) c.requires.search.job
     (limits_scoped w.part _ c.scope.result.now c.scope.ensures is c.limits.ensures) made.adds outs.some outs.steps).0
 
-pub match_tree-requires-clause-plus : goal.match_tree-requires-clause-plus
-match_tree-requires-clause-plus c =
+pub end_tree-requires-clause-plus : goal.end_tree-requires-clause-plus
+end_tree-requires-clause-plus c =
     leaving_plus (search_of c.args.pieces.now) c.args.edge c.args.plus c.requires.leads
 
-pub match_tree-requires-clause-distinct : goal.match_tree-requires-clause-distinct
-match_tree-requires-clause-distinct c =
+pub end_tree-requires-clause-distinct : goal.end_tree-requires-clause-distinct
+end_tree-requires-clause-distinct c =
     rw c.take_unmatched.ensures.matches
     (boundary_apart (search_of c.args.pieces.now) c.args.edge c.args.plus c.in_ok-link.link c.take_unmatched.new.self.unmatched
     c.requires.search c.requires.leads (rw c.root.ensures at c.take_unmatched.ensures.unmatched))
 
-pub forget_tree-requires-clause-plus : goal.forget_tree-requires-clause-plus
-forget_tree-requires-clause-plus c =
-    leaving_plus (search_of c.args.pieces.now) c.args.edge c.args.plus c.requires.leads
-
-pub forget_tree-requires-clause-live : goal.forget_tree-requires-clause-live
-forget_tree-requires-clause-live c =
+pub end_tree-requires-clause-live : goal.end_tree-requires-clause-live
+end_tree-requires-clause-live c =
     let made = c.in_ok-link.ensures in
     gone_live (search_of c.args.pieces.now) c.args.plus c.in_ok-link.link made.walk c.link_out.new.links c.requires.search
     made.adds
 
-pub forget_tree-requires-clause-distinct : goal.forget_tree-requires-clause-distinct
-forget_tree-requires-clause-distinct c =
+pub end_tree-requires-clause-once : goal.end_tree-requires-clause-once
+end_tree-requires-clause-once c =
     gone_once (search_of c.args.pieces.now) c.args.plus c.in_ok-link.link c.in_ok-link.ensures.walk c.link_out.new.links
     c.requires.search
 
@@ -62,18 +58,18 @@ returns c =
     let made = c.in_ok-link.ensures in
     let ended =
     boundary_ended w c.args.edge c.args.plus c.in_ok-link.link c.take_unmatched.new.self.unmatched c.requires.search leads
-    (rw c.root.ensures at c.take_unmatched.ensures.unmatched) made.walk c.link_out.new.links c.forget_tree.new.links
+    (rw c.root.ensures at c.take_unmatched.ensures.unmatched) made.walk c.link_out.new.links c.end_tree.new.links
     (out_scoped w.part _ (scope_is _ scope) c.args.edge c.args.plus leads.outer made.walk (leads_out w c.args.edge c.args.plus leads)
-    made.out) made.adds c.in_ok-forget_tree.ensures in
-    rw (c.in_ok-match_tree.ensures, c.take_unmatched.ensures.matches)
+    made.out) made.adds c.in_ok-end_tree.ensures.links in
+    rw (c.in_ok-end_tree.ensures.matches, c.take_unmatched.ensures.matches)
     (record {
       scope = record {
         graph = scope.graph;
         plan = scope.plan;
         node = scope.node;
         listed =
-            out_listed w c.args.plus c.in_ok-link.link made.walk c.link_out.new.links c.forget_tree.new.links c.requires.search made.adds
-            c.in_ok-forget_tree.ensures c.args.pieces.now.parts.seams c.list.new.self c.far_owner-owner.result scope.listed c.in_ok-list.ensures
+            out_listed w c.args.plus c.in_ok-link.link made.walk c.link_out.new.links c.end_tree.new.links c.requires.search made.adds
+            c.in_ok-end_tree.ensures.links c.args.pieces.now.parts.seams c.list.new.self c.far_owner-owner.result scope.listed c.in_ok-list.ensures
             (c.far_owner-owner.ensures
             ∙ owner_scoped c.scope-2.result.now w.part (link_by c.link_out.new.links c.in_ok-link.link)
             (subst (λ s. IsScopeOf s w.part) (sym c.scope-2.ensures) (scope_is _ scope)));

@@ -17,29 +17,25 @@ take_unmatched-requires-2 c =
     (root_left (search_of c.args.pieces.now) c.args.edge c.args.plus c.args.other c.take_unmatched.new.self.unmatched
     c.requires.search c.requires.meets c.take_unmatched.ensures.unmatched)
 
-pub match_tree-requires-clause-plus : goal.match_tree-requires-clause-plus
-match_tree-requires-clause-plus c =
+pub end_tree-requires-clause-plus : goal.end_tree-requires-clause-plus
+end_tree-requires-clause-plus c =
     meeting_plus (search_of c.args.pieces.now) c.args.edge c.args.plus c.args.other c.requires.meets
 
-pub match_tree-requires-clause-distinct : goal.match_tree-requires-clause-distinct
-match_tree-requires-clause-distinct c =
+pub end_tree-requires-clause-distinct : goal.end_tree-requires-clause-distinct
+end_tree-requires-clause-distinct c =
     rw (c.take_unmatched-2.ensures.matches, c.take_unmatched.ensures.matches)
     (met_apart (search_of c.args.pieces.now) c.args.edge c.args.plus c.args.other c.in_ok-link.link
     c.take_unmatched.new.self.unmatched c.take_unmatched-2.new.self.unmatched c.requires.search c.requires.meets
     c.take_unmatched.ensures.unmatched (rw c.root.ensures at c.take_unmatched-2.ensures.unmatched))
 
-pub forget_tree-requires-clause-plus : goal.forget_tree-requires-clause-plus
-forget_tree-requires-clause-plus c =
-    meeting_plus (search_of c.args.pieces.now) c.args.edge c.args.plus c.args.other c.requires.meets
-
-pub forget_tree-requires-clause-live : goal.forget_tree-requires-clause-live
-forget_tree-requires-clause-live c =
+pub end_tree-requires-clause-live : goal.end_tree-requires-clause-live
+end_tree-requires-clause-live c =
     let made = c.in_ok-link.ensures in
     gone_live (search_of c.args.pieces.now) c.args.plus c.in_ok-link.link made.walk c.link_between.new.links
     c.requires.search made.adds
 
-pub forget_tree-requires-clause-distinct : goal.forget_tree-requires-clause-distinct
-forget_tree-requires-clause-distinct c =
+pub end_tree-requires-clause-once : goal.end_tree-requires-clause-once
+end_tree-requires-clause-once c =
     gone_once (search_of c.args.pieces.now) c.args.plus c.in_ok-link.link c.in_ok-link.ensures.walk
     c.link_between.new.links c.requires.search
 
@@ -52,19 +48,19 @@ returns c =
     let ended =
     met_ended w c.args.edge c.args.plus c.args.other c.in_ok-link.link c.take_unmatched.new.self.unmatched
     c.take_unmatched-2.new.self.unmatched c.requires.search meets c.take_unmatched.ensures.unmatched
-    (rw c.root.ensures at c.take_unmatched-2.ensures.unmatched) made.walk c.link_between.new.links c.forget_tree.new.links
+    (rw c.root.ensures at c.take_unmatched-2.ensures.unmatched) made.walk c.link_between.new.links c.end_tree.new.links
     (met_scoped w.part _ (scope_is _ scope) c.args.edge c.args.plus c.args.other made.walk
     (meets_between w c.args.edge c.args.plus c.args.other meets) made.between)
-    c.requires.unmatched made.adds c.in_ok-forget_tree.ensures in
-    rw (c.in_ok-match_tree.ensures, c.take_unmatched-2.ensures.matches, c.take_unmatched.ensures.matches)
+    c.requires.unmatched made.adds c.in_ok-end_tree.ensures.links in
+    rw (c.in_ok-end_tree.ensures.matches, c.take_unmatched-2.ensures.matches, c.take_unmatched.ensures.matches)
     (record {
       scope = record {
         graph = scope.graph;
         plan = scope.plan;
         node = scope.node;
         listed =
-            met_listed w c.args.plus c.in_ok-link.link made.walk c.link_between.new.links c.forget_tree.new.links c.requires.search made.adds
-            c.in_ok-forget_tree.ensures c.args.other c.args.pieces.now.parts.seams scope.listed;
+            met_listed w c.args.plus c.in_ok-link.link made.walk c.link_between.new.links c.end_tree.new.links c.requires.search made.adds
+            c.in_ok-end_tree.ensures.links c.args.other c.args.pieces.now.parts.seams scope.listed;
       };
       part = ended.0;
       ends = record { searched = ended.1; room = refl };

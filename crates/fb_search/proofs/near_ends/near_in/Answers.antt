@@ -1,5 +1,7 @@
-use Rattle.std.proofs.Common.{Option, Some, None, ap}
+use Rattle.std.proofs.Common.{Option, Some, None, refl}
 use Rattle.std.specs.Prelude.{IfSome}
+use Rattle.fb_half.specs.Values.{part_of}
+use Rattle.fb_plan.specs.Scopes.{scope_graph}
 use Rattle.fb_search.specs.declared.near.Near.{Near}
 use Rattle.fb_search.proofs.NearParts.{near_in_part}
 use Rattle.fb_search.proofs.near_ends.near_in.Goals as goal
@@ -10,9 +12,9 @@ weaker P Q by None is = tt
 
 pub returns : goal.returns
 returns c =
-    let regions = c.regions.result.now in
-    let scope = c.regions.ensures.scope in
+    let parts = c.args.parts.now in
+    let scope = c.requires.scope in
     weaker _ _ (λ near is.
-    near_in_part regions.scope.graph.now regions.scope.plan.now regions.scope.node c.args.work.now regions.nodes
-    c.matching.result.now.unmatched c.args.root near scope.graph scope.plan scope.node c.regions.ensures.nodes
-    (ap (λ m. m.unmatched) c.matching.ensures) is) c.near_of.result c.near_of.ensures
+    near_in_part (scope_graph parts.regions.scope) parts.regions.scope.plan.now parts.regions.scope.node (part_of parts)
+    parts.regions.nodes parts.matching.unmatched c.args.root near scope.graph scope.plan scope.node refl refl is)
+    c.near_of.result c.near_of.ensures

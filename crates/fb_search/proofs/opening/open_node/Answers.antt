@@ -5,6 +5,7 @@ use Rattle.fb_links.specs.Table as table
 use Rattle.fb_links.specs.declared.cycle.CycleStep.{CycleStep}
 use Rattle.fb_blossoms.specs.Nodes.{is_on}
 use Rattle.fb_plan.specs.declared.scope.NodeScope.{NodeScope}
+use Rattle.fb_plan.specs.Scopes.{scope_graph}
 use Rattle.fb_half.specs.Matchings.{listed_names, matched_names}
 use Rattle.fb_trees.specs.Branches.{entry_of}
 use Rattle.fb_trees.specs.Replacements.{AreLinkedOn, IsOpened, MayOpen}
@@ -134,7 +135,7 @@ watch_node-requires-clause-live c = c.requires.empty.1.live
 pub watch_node-requires-clause-room : goal.watch_node-requires-clause-room
 watch_node-requires-clause-room c =
     c.requires.search.room
-    ∙ sym (ap (λ g. length g.edges) (ap (λ (s : NodeScope). s.graph.now) c.scope.ensures ∙ c.requires.scope.graph))
+    ∙ sym (ap (λ g. length g.edges) (ap scope_graph c.scope.ensures ∙ c.requires.scope.graph))
 
 pub returns : goal.returns
 returns c =
@@ -159,12 +160,12 @@ returns c =
           (c.deref-3.ensures.value ∙ c.in_ok-apart.ensures.left
           ∙ ap (λ l. links_left (parts l) c.child_at-below.result) cycle) c.forget_all.ensures;
       within = c.keeps.ensures.within;
-      watches = kept_watches w.part c.args.pieces.now.parts.regions.scope.graph.now c.args.pieces.now.parts.regions.scope.plan.now
+      watches = kept_watches w.part (scope_graph c.args.pieces.now.parts.regions.scope) c.args.pieces.now.parts.regions.scope.plan.now
           c.args.pieces.now.parts.regions.scope.node _ w.watched c.watch_node.new.watch c.requires.scope.graph watches;
     } in
     let scope = c.requires.scope in
-    let limits = kept_limits w.part c.scope.result.now.graph.now c.scope.result.now.plan.now c.scope.result.now.node
-    (ap (λ (s : NodeScope). s.graph.now) c.scope.ensures ∙ scope.graph)
+    let limits = kept_limits w.part (scope_graph c.scope.result.now) c.scope.result.now.plan.now c.scope.result.now.node
+    (ap scope_graph c.scope.ensures ∙ scope.graph)
     (ap (λ (s : NodeScope). s.plan.now) c.scope.ensures ∙ scope.plan)
     (ap (λ (s : NodeScope). s.node) c.scope.ensures ∙ scope.node) c.limits.ensures in
     rw c.in_ok-split_node.ensures.ok

@@ -1,12 +1,10 @@
-use Rattle.std.proofs.Common.{ℕ, ◌≡◌, ◌∙◌, List, [], ◌∷◌, ◌++◌, Option, None, ap, refl, sym, arith, append-nil, option_to_list}
+use Rattle.std.proofs.Common.{ℕ, ◌≡◌, List, [], ◌∷◌, ◌++◌, Option, None, ap, arith, option_to_list}
 use Rattle.std.proofs.lemmas.Result.{IfOk-weaker}
 use Rattle.std.specs.Prelude.{Result, Ok, Err, OnOk}
-use Rattle.fb_graph.specs.Parity.{is_in}
 use Rattle.fb_half.specs.Parts.{PartValue}
 use Rattle.fb_search.specs.InternalRounds.{HasSearchedSome}
 use Rattle.fb_search.proofs.DoneSteps.{and_ok}
-use Rattle.fb_search.proofs.MetOutside.{not_unmatched}
-use Rattle.fb_search.proofs.RoundSteps.{root_searched, root_skipped}
+use Rattle.fb_search.proofs.RoundSteps.{root_searched}
 use Rattle.fb_search.proofs.rounds.search_next.Goals as goal
 
 -- the name that a search left is listed
@@ -17,16 +15,6 @@ noted : {T E : Type 0} (done : Result T E) (old new : ℕ) (before after : PartV
     × (factor ≡ None → rest ≡ []))
 noted (Ok x) old new before after root names left more factor is searched whole = (more, is, searched, whole)
 noted (Err e) old new before after root names left more factor is searched whole = is
-
-pub returns-in_default-clause-searched : goal.returns-in_default-clause-searched
-returns-in_default-clause-searched g c = (
-  [],
-  sym (append-nil c.args.round.left.items),
-  root_skipped c.args.round.work c.args.root c.args.steps.now
-      (ap (λ m. is_in m.unmatched c.args.root) (sym c.matching.ensures)
-      ∙ (c.standing.ensures.unmatched ∙ not_unmatched c.standing.result c.in_default.not-Unmatched)),
-  λ none. refl,
-)
 
 pub returns-clause-searched : goal.returns-clause-searched
 returns-clause-searched g c =

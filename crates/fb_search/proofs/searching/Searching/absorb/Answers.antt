@@ -1,6 +1,7 @@
 use Rattle.std.proofs.Common.{◌∙◌, ap}
 use Rattle.fb_graph.specs.Limits.{IsWithinLimits}
 use Rattle.fb_graph.specs.Moves.{absorbed_nodes}
+use Rattle.fb_plan.specs.Scopes.{scope_graph}
 use Rattle.fb_half.specs.Values.{part_of}
 use Rattle.fb_search.specs.InternalSearching.{SearchValue, problem_of}
 use Rattle.fb_search.proofs.BegunSearches.{kept_limits}
@@ -23,11 +24,13 @@ pub watch_taken-requires-clause-below : goal.watch_taken-requires-clause-below
 watch_taken-requires-clause-below c =
     let w : SearchValue = record { part = part_of c.self.inside.parts; tree = c.self.inside.tree; watched = c.self.inside.watch } in
     let a : Absorbs w c.args.edge = absorbs_some w c.args.edge (rw (← c.self.view_is) at c.requires) in
-    let graph = c.graph.ensures ∙ ap (λ j. j.graph) c.job.ensures in
-    let plan = c.plan.ensures ∙ ap (λ j. j.plan) c.job-2.ensures in
+    let scope = c.self.invariant.0 in
+    let graph = ap scope_graph c.scope.ensures ∙ scope.graph in
+    let plan = ap (λ s. s.plan.now) c.scope.ensures ∙ scope.plan in
+    let node = ap (λ s. s.node) c.scope.ensures ∙ scope.node in
     let limits : IsWithinLimits (problem_of w) =
-    kept_limits w.part c.graph.result.now c.plan.result.now c.node.result graph plan c.node.ensures c.limits.ensures in
-    taken_below w c.args.edge a c.free_end-taken.result c.graph.result.now.vertices limits
+    kept_limits w.part (scope_graph c.scope.result.now) c.scope.result.now.plan.now c.scope.result.now.node graph plan node c.limits.ensures in
+    taken_below w c.args.edge a c.free_end-taken.result c.scope.result.now.graph.now.vertices limits
     (end_taken w c.args.edge a _ (ap (λ g. g.edges) graph) c.free_end-taken.result c.free_end-taken.ensures)
     (ap (λ g. g.vertices) graph)
 
@@ -36,16 +39,17 @@ invariant_of-self c =
     let w : SearchValue = record { part = part_of c.self.inside.parts; tree = c.self.inside.tree; watched = c.self.inside.watch } in
     let a : Absorbs w c.args.edge = absorbs_some w c.args.edge (rw (← c.self.view_is) at c.requires) in
     let scope = c.self.invariant.0 in
-    let graph = c.graph.ensures ∙ ap (λ j. j.graph) c.job.ensures in
-    let plan = c.plan.ensures ∙ ap (λ j. j.plan) c.job-2.ensures in
+    let graph = ap scope_graph c.scope.ensures ∙ scope.graph in
+    let plan = ap (λ s. s.plan.now) c.scope.ensures ∙ scope.plan in
+    let node = ap (λ s. s.node) c.scope.ensures ∙ scope.node in
     let limits : IsWithinLimits (problem_of w) =
-    kept_limits w.part c.graph.result.now c.plan.result.now c.node.result graph plan c.node.ensures c.limits.ensures in
+    kept_limits w.part (scope_graph c.scope.result.now) c.scope.result.now.plan.now c.scope.result.now.node graph plan node c.limits.ensures in
     let at = end_taken w c.args.edge a _ (ap (λ g. g.edges) graph) c.free_end-taken.result c.free_end-taken.ensures in
     rw (c.absorb.ensures, nodes_taken w c.args.edge a _ (ap (λ g. g.edges) scope.graph)) (
       record { graph = scope.graph; plan = scope.plan; node = scope.node; listed = scope.listed },
       searching_raised w c.args.edge a.from a.to a.name c.watch_taken.new.watch c.self.invariant.1 limits a.may
           c.keeps.ensures.within
-          (kept_taken w.part c.graph.result.now c.plan.result.now c.node.result c.free_end-taken.result a.to _ _
+          (kept_taken w.part (scope_graph c.scope.result.now) c.scope.result.now.plan.now c.scope.result.now.node c.free_end-taken.result a.to _ _
           (absorbed_nodes a.name a.to w.part.nodes) w.watched c.watch_taken.new.watch graph at (ap (λ r. r.nodes) c.absorb.ensures)
           (nodes_taken w c.args.edge a _ (ap (λ g. g.edges) scope.graph)) c.watch_taken.ensures),
     )
@@ -55,9 +59,10 @@ returns c =
     let w : SearchValue = record { part = part_of c.self.inside.parts; tree = c.self.inside.tree; watched = c.self.inside.watch } in
     let a : Absorbs w c.args.edge = absorbs_some w c.args.edge (rw (← c.self.view_is) at c.requires) in
     let scope = c.self.invariant.0 in
-    let graph = c.graph.ensures ∙ ap (λ j. j.graph) c.job.ensures in
-    let plan = c.plan.ensures ∙ ap (λ j. j.plan) c.job-2.ensures in
+    let graph = ap scope_graph c.scope.ensures ∙ scope.graph in
+    let plan = ap (λ s. s.plan.now) c.scope.ensures ∙ scope.plan in
+    let node = ap (λ s. s.node) c.scope.ensures ∙ scope.node in
     let limits : IsWithinLimits (problem_of w) =
-    kept_limits w.part c.graph.result.now c.plan.result.now c.node.result graph plan c.node.ensures c.limits.ensures in
+    kept_limits w.part (scope_graph c.scope.result.now) c.scope.result.now.plan.now c.scope.result.now.node graph plan node c.limits.ensures in
     rw (← c.self.view_is, c.absorb.ensures, nodes_taken w c.args.edge a _ (ap (λ g. g.edges) scope.graph))
     (goes_on_raised w c.args.edge a.from a.to a.name c.watch_taken.new.watch c.self.invariant.1 limits a.may a.plus)

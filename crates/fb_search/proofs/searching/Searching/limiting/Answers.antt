@@ -1,4 +1,5 @@
 use Rattle.std.proofs.Common.{◌∙◌, ◌<◌, length, ap, sym}
+use Rattle.fb_plan.specs.Scopes.{scope_graph}
 use Rattle.fb_graph.proofs.Sets.{is_in-All}
 use Rattle.fb_half.specs.Values.{part_of}
 use Rattle.fb_search.specs.InternalSearching.{SearchValue}
@@ -13,8 +14,8 @@ obstacle_at-requires g c =
       same = sym c.scope.ensures;
       roles = next_roles w c.self.invariant.1;
       parity = next_parity w c.self.invariant.1;
-      below = is_in-All (λ k. k < length c.scope.result.now.graph.now.edges) w.watched.edges
-          (next_watched w c.self.invariant.1 _ _ _ (ap (λ s. s.graph.now) c.scope.ensures ∙ scope.graph)
+      below = is_in-All (λ k. k < length (scope_graph c.scope.result.now).edges) w.watched.edges
+          (next_watched w c.self.invariant.1 _ _ _ (ap scope_graph c.scope.ensures ∙ scope.graph)
           (ap (λ s. s.plan.now) c.scope.ensures ∙ scope.plan) (ap (λ s. s.node) c.scope.ensures ∙ scope.node)).within
           c.in_ok-edge.edge c.in_ok-edge.ensures;
     }
@@ -24,6 +25,6 @@ returns g c =
     let w : SearchValue = record { part = part_of c.self.inside.parts; tree = c.self.inside.tree; watched = c.self.inside.watch } in
     let scope = c.self.invariant.0 in
     rw (← c.self.view_is)
-    (next_limiting w c.self.invariant.1 c.scope.result.now.graph.now c.scope.result.now.plan.now c.scope.result.now.node
-    (ap (λ s. s.graph.now) c.scope.ensures ∙ scope.graph) (ap (λ s. s.plan.now) c.scope.ensures ∙ scope.plan)
+    (next_limiting w c.self.invariant.1 (scope_graph c.scope.result.now) c.scope.result.now.plan.now c.scope.result.now.node
+    (ap scope_graph c.scope.ensures ∙ scope.graph) (ap (λ s. s.plan.now) c.scope.ensures ∙ scope.plan)
     (ap (λ s. s.node) c.scope.ensures ∙ scope.node) _ c.obstacle_at.result c.obstacle_at.ensures.obstacle)

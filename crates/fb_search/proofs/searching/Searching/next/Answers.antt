@@ -1,4 +1,5 @@
 use Rattle.std.proofs.Common.{◌∙◌, ap, sym}
+use Rattle.fb_plan.specs.Scopes.{scope_graph}
 use Rattle.fb_half.specs.Values.{part_of}
 use Rattle.fb_search.specs.InternalSearching.{SearchValue}
 use Rattle.fb_search.proofs.NextObstacles.{next_bounded, next_even, next_is, next_minus, next_parity, next_plus, next_roles, next_watched, searching_rewatched}
@@ -8,7 +9,7 @@ pub next_obstacle-requires : goal.next_obstacle-requires
 next_obstacle-requires g c =
     let w : SearchValue = record { part = part_of c.self.inside.parts; tree = c.self.inside.tree; watched = c.self.inside.watch } in
     let scope = c.self.invariant.0 in
-    let graph = ap (λ s. s.graph.now) c.scope.ensures ∙ scope.graph in
+    let graph = ap scope_graph c.scope.ensures ∙ scope.graph in
     let plan = ap (λ s. s.plan.now) c.scope.ensures ∙ scope.plan in
     let node = ap (λ s. s.node) c.scope.ensures ∙ scope.node in
     record {
@@ -26,8 +27,8 @@ pub returns-clause-obstacle : goal.returns-clause-obstacle
 returns-clause-obstacle g c =
     let w : SearchValue = record { part = part_of c.self.inside.parts; tree = c.self.inside.tree; watched = c.self.inside.watch } in
     let scope = c.self.invariant.0 in
-    next_is w c.self.invariant.1 c.scope.result.now.graph.now c.scope.result.now.plan.now c.scope.result.now.node
-    (ap (λ s. s.graph.now) c.scope.ensures ∙ scope.graph) (ap (λ s. s.plan.now) c.scope.ensures ∙ scope.plan)
+    next_is w c.self.invariant.1 (scope_graph c.scope.result.now) c.scope.result.now.plan.now c.scope.result.now.node
+    (ap scope_graph c.scope.ensures ∙ scope.graph) (ap (λ s. s.plan.now) c.scope.ensures ∙ scope.plan)
     (ap (λ s. s.node) c.scope.ensures ∙ scope.node) c.next_obstacle.result
     c.next_obstacle.ensures.obstacle
 
@@ -36,8 +37,8 @@ invariant_of-self g c =
     let w : SearchValue = record { part = part_of c.self.inside.parts; tree = c.self.inside.tree; watched = c.self.inside.watch } in
     let scope = c.self.invariant.0 in (
       scope,
-      searching_rewatched w c.self.invariant.1 c.scope.result.now.graph.now c.scope.result.now.plan.now c.scope.result.now.node
-          (ap (λ s. s.graph.now) c.scope.ensures ∙ scope.graph) (ap (λ s. s.plan.now) c.scope.ensures ∙ scope.plan)
+      searching_rewatched w c.self.invariant.1 (scope_graph c.scope.result.now) c.scope.result.now.plan.now c.scope.result.now.node
+          (ap scope_graph c.scope.ensures ∙ scope.graph) (ap (λ s. s.plan.now) c.scope.ensures ∙ scope.plan)
           (ap (λ s. s.node) c.scope.ensures ∙ scope.node) c.next_obstacle.new.watch
           c.next_obstacle.ensures.left.room
           c.next_obstacle.ensures.watched c.next_obstacle.ensures.bounded,

@@ -1,4 +1,5 @@
 use Rattle.std.proofs.Common.{◌≡◌, ◌∙◌, ◌≤◌, ◌^◌, ap, arith, refl}
+use Rattle.fb_plan.specs.Scopes.{scope_graph}
 use Rattle.fb_graph.specs.Limits.{IsWithinLimits}
 use Rattle.fb_graph.specs.Steps.{MayStep}
 use Rattle.fb_half.specs.Values.{part_of}
@@ -17,8 +18,8 @@ step_nodes-requires c =
     let scope = c.self.inside.parts.regions.scope in
     let graph = c.self.invariant.0.graph in
     record {
-      tree = tree_in_scope w scope.graph.now scope.plan.now scope.node graph (tree_over w c.self.invariant.1);
-      may = step_in_scope w scope.graph.now scope.plan.now scope.node c.args.length _ graph
+      tree = tree_in_scope w (scope_graph scope) scope.plan.now scope.node graph (tree_over w c.self.invariant.1);
+      may = step_in_scope w (scope_graph scope) scope.plan.now scope.node c.args.length _ graph
           (step_by_names w c.args.length c.self.invariant.1 may);
     }
 
@@ -29,8 +30,8 @@ overflow_mul-length c =
     step_by_names w c.args.length c.self.invariant.1 (rw (← c.self.view_is) at c.requires) in
     let scope = c.self.invariant.0 in
     let limits : IsWithinLimits (problem_of w) =
-    kept_limits w.part c.scope.result.now.graph.now c.scope.result.now.plan.now c.scope.result.now.node
-    (ap (λ s. s.graph.now) c.scope.ensures ∙ scope.graph) (ap (λ s. s.plan.now) c.scope.ensures ∙ scope.plan)
+    kept_limits w.part (scope_graph c.scope.result.now) c.scope.result.now.plan.now c.scope.result.now.node
+    (ap scope_graph c.scope.ensures ∙ scope.graph) (ap (λ s. s.plan.now) c.scope.ensures ∙ scope.plan)
     (ap (λ s. s.node) c.scope.ensures ∙ scope.node) c.limits.ensures in
     let fits : c.args.length ≤ 2 ^ 52 =
     length_fits w c.args.length c.self.invariant.1 (searching_stepped w c.args.length c.self.invariant.1 limits may) may in
@@ -43,8 +44,8 @@ invariant_of-self c =
     step_by_names w c.args.length c.self.invariant.1 (rw (← c.self.view_is) at c.requires) in
     let scope = c.self.invariant.0 in
     let limits : IsWithinLimits (problem_of w) =
-    kept_limits w.part c.scope.result.now.graph.now c.scope.result.now.plan.now c.scope.result.now.node
-    (ap (λ s. s.graph.now) c.scope.ensures ∙ scope.graph) (ap (λ s. s.plan.now) c.scope.ensures ∙ scope.plan)
+    kept_limits w.part (scope_graph c.scope.result.now) c.scope.result.now.plan.now c.scope.result.now.node
+    (ap scope_graph c.scope.ensures ∙ scope.graph) (ap (λ s. s.plan.now) c.scope.ensures ∙ scope.plan)
     (ap (λ s. s.node) c.scope.ensures ∙ scope.node) c.limits.ensures in
     let lowered : c.lower.new.self ≡ lowered_by c.args.length w.watched = c.lower.ensures in
     rw (c.step_nodes.ensures, lowered) (

@@ -1,4 +1,5 @@
 use Rattle.std.proofs.Common.{◌∙◌, ap, refl}
+use Rattle.fb_plan.specs.Scopes.{scope_graph}
 use Rattle.fb_graph.specs.Limits.{IsWithinLimits}
 use Rattle.fb_graph.specs.Moves.{uncovered_nodes}
 use Rattle.fb_half.specs.Values.{part_of}
@@ -19,9 +20,9 @@ watch_taken-requires-clause-below c =
     let w : SearchValue = record { part = part_of c.self.inside.parts; tree = c.self.inside.tree; watched = c.self.inside.watch } in
     let may = rw (← c.self.view_is) at c.requires in
     let scope = c.self.invariant.0 in
-    let graph = ap (λ s. s.graph.now) c.scope.ensures ∙ scope.graph in
+    let graph = ap scope_graph c.scope.ensures ∙ scope.graph in
     let limits : IsWithinLimits (problem_of w) =
-    kept_limits w.part c.scope.result.now.graph.now c.scope.result.now.plan.now c.scope.result.now.node graph
+    kept_limits w.part (scope_graph c.scope.result.now) c.scope.result.now.plan.now c.scope.result.now.node graph
     (ap (λ s. s.plan.now) c.scope.ensures ∙ scope.plan) (ap (λ s. s.node) c.scope.ensures ∙ scope.node) c.limits.ensures in
     last_below w c.args.node c.last_vertex-freed.result c.scope.result.now.graph.now.vertices c.self.invariant.1 may.1
     c.last_vertex-freed.ensures.last limits (ap (λ g. g.vertices) graph)
@@ -31,12 +32,12 @@ invariant_of-self c =
     let w : SearchValue = record { part = part_of c.self.inside.parts; tree = c.self.inside.tree; watched = c.self.inside.watch } in
     let may = rw (← c.self.view_is) at c.requires in
     let scope = c.self.invariant.0 in
-    let graph = ap (λ s. s.graph.now) c.scope.ensures ∙ scope.graph in
+    let graph = ap scope_graph c.scope.ensures ∙ scope.graph in
     rw c.uncover.ensures (
       record { graph = scope.graph; plan = scope.plan; node = scope.node; listed = scope.listed },
       searching_lowered w c.args.node c.last_vertex-freed.result c.watch_taken.new.watch c.self.invariant.1 may.0 may.1
           c.last_vertex-freed.ensures.last c.keeps.ensures.within
-          (kept_taken w.part c.scope.result.now.graph.now c.scope.result.now.plan.now c.scope.result.now.node c.last_vertex-freed.result
+          (kept_taken w.part (scope_graph c.scope.result.now) c.scope.result.now.plan.now c.scope.result.now.node c.last_vertex-freed.result
           c.last_vertex-freed.result _ _ (uncovered_nodes c.args.node w.part.nodes) w.watched c.watch_taken.new.watch graph refl
           (ap (λ r. r.nodes) c.uncover.ensures) refl c.watch_taken.ensures),
     )

@@ -1,4 +1,4 @@
-use Rattle.fb_search.proofs.rounds.match_within.Given as goal
+use Rattle.fb_search.proofs.rounds.grow_within.Given as goal
 
 -- the looks are counted in a book of their own
 abbrev pub ghosts-finish_within : goal.ghosts-finish_within

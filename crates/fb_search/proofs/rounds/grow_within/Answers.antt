@@ -1,18 +1,9 @@
-use Rattle.std.proofs.Common.{◌∙◌, ap, refl, subst, sym}
-use Rattle.std.specs.Prelude.{IfOk}
+use Rattle.std.proofs.Common.{◌∙◌, ap, subst}
 use Rattle.std.proofs.lemmas.Result.{IfOk-weaker}
 use Rattle.fb_search.specs.InternalPaces.{IsEndedWithin}
 use Rattle.fb_search.specs.InternalRounds.{IsLeft}
 use Rattle.fb_search.specs.InternalSearching.{SearchValue}
-use Rattle.fb_search.specs.Progress.{IsSearched}
-use Rattle.fb_search.proofs.rounds.match_within.Goals as goal
-
-pub returns-in-Some : goal.returns-in-Some
-returns-in-Some c = record {
-  left = subst (λ r. IfOk r (IsSearched c.args.root c.args.work)) c.in_ok-work.ensures.0 c.match_near.ensures;
-  room = ap (λ s. s.edge_count) (sym c.in_ok-work.ensures.1);
-  without_limit = λ none. refl;
-}
+use Rattle.fb_search.proofs.rounds.grow_within.Goals as goal
 
 pub returns : goal.returns
 returns c =
