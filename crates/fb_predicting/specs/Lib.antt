@@ -1,3 +1,4 @@
 pub mod Predictions
 pub mod PredictEndings
 pub mod PredictLaws
+pub mod InternalRecords

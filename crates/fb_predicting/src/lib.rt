@@ -4,6 +4,6 @@
 
 pub mod laws;
 mod predicting;
-mod rows;
+mod records;
 
 pub use predicting::predict;

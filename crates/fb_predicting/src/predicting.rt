@@ -1,18 +1,21 @@
 //! The command `predict`: writes the observables that the rows of a report flip.
 
-ghost use Rattle.std.specs.Prelude.{◌≡◌};
+ghost use Rattle.std.specs.Prelude.{◌≡◌, ◌≢◌, ◌<◌, [], ◌∷◌, Err, IfErr, IfOk, IsErrOf};
 ghost use Rattle.fb_endings.specs.Ends.{CountsReadFault};
+ghost use Rattle.fb_inputs.specs.Judging.{Asks, AsksPrefix, Holds, IfRefused, IsNoReport};
 ghost use Rattle.fb_inputs.specs.Moments.{moment};
 ghost use Rattle.fb_ports.specs.Causes.{CountsFault, HasRoom, IsEmptyIfKnown};
+ghost use Rattle.fb_predicting.specs.InternalRecords.{AreRecordsOfFile};
 ghost use Rattle.fb_predicting.specs.PredictEndings.{ObservablesEnds, PredictEnds, ReportEnds};
 ghost use Rattle.fb_request.specs.PlainRequests.{plain_predicting};
 
-use crate::rows::write_rows;
+use crate::records::Records;
 use fb_endings::{Cause, cause_of_observables, cause_of_report, graph_or_cause};
-use fb_inputs::{read_observables_file, read_report_file};
+use fb_inputs::{FileFault, read_named, read_observables_file};
 use fb_ports::{Files, Sink};
 use fb_predict::Observables;
-use fb_request::Predicting;
+use fb_request::{Coding, Predicting};
+use fb_verify::{MOST_REPORT_BYTES, ReportFault};
 use std::alloc::Global;
 
 /// Writes the predictions of the rows of the report that is named: the graph, the observables and the report are read and
@@ -57,7 +60,7 @@ fn predict_for_edges<F: Files, O: Sink>(
     }
 }
 
-/// Writes the predictions of observables.
+/// Writes the predictions of observables. The report's text is gone before anything is written.
 fn predict_observables<F: Files, O: Sink>(
     alloc: Global,
     request: &Predicting<'_>,
@@ -72,8 +75,34 @@ fn predict_observables<F: Files, O: Sink>(
     ensures reads { CountsReadFault result (F.faults files.old) (F.faults files.new) }
     ensures writes { CountsFault (result ≡ Cause.WriteFault) (O.faults out.old) (O.faults out.new) }
 {
-    match read_report_file(alloc, files, request.report) {
-        Ok(report) => write_rows(alloc, request.to, observables, report.rows.as_slice(), out),
+    match records_of_file(alloc, request.to, observables, files, request.report) {
+        Ok(records) => records.write(out),
         Err(fault) => cause_of_report(fault),
+    }
+}
+
+/// The records of the rows of the report in the named file. Returns an error if its text is refused, the file can't be
+/// opened or read, or memory runs out.
+fn records_of_file<F: Files>(
+    alloc: Global,
+    to: Coding,
+    observables: &Observables,
+    files: &mut F,
+    name: &str,
+) -> Result<Records, FileFault<ReportFault>>
+    requires { HasRoom (F.asked files.old) 16 }
+    ensures asks { AsksPrefix (F.asked files.old) (F.asked files.new) (name.now ∷ []) }
+    ensures asked { result ≢ Err FileFault.NoMemory → Asks (F.asked files.old) (F.asked files.new) (name.now ∷ []) }
+    ensures names { F.named files.new ≡ F.named files.old }
+    ensures records { IfOk result (AreRecordsOfFile to observables.now (F.named files.old) name.now) }
+    ensures refused { IfErr result (IfRefused (λ fault. Holds (F.named files.old) name.now (IsNoReport fault))) }
+    ensures faults { CountsFault (IsErrOf result FileFault.ReadFault) (F.faults files.old) (F.faults files.new) }
+    ensures reported { F.faults files.old < F.faults files.new → IsErrOf result FileFault.ReadFault }
+{
+    let text = read_named(alloc, files, name, MOST_REPORT_BYTES, ReportFault::TooLong)?;
+    match Records::of_report(alloc, to, observables, &text) {
+        Ok(records) => Ok(records),
+        Err(ReportFault::NoMemory) => Err(FileFault::NoMemory),
+        Err(fault) => Err(FileFault::Refused(fault)),
     }
 }

@@ -8,27 +8,27 @@ use Rattle.fb_predicting.proofs.predicting.predict_observables.Goals as goal
 
 pub returns-in-Ok-clause-ends : goal.returns-in-Ok-clause-ends
 returns-in-Ok-clause-ends g c = inr (record {
-  report = c.in-Ok.report;
-  read = moment (g.F.Files.named c.read_report_file.new.files) (g.F.Files.left c.read_report_file.new.files) (g.F.Files.asked c.read_report_file.new.files)
-      (g.F.Files.faults c.read_report_file.new.files) (g.O.Sink.taken c.args.out.now);
+  report = c.in-Ok.ensures.records.0;
+  read = moment (g.F.Files.named c.records_of_file.new.files) (g.F.Files.left c.records_of_file.new.files) (g.F.Files.asked c.records_of_file.new.files)
+      (g.F.Files.faults c.records_of_file.new.files) (g.O.Sink.taken c.args.out.now);
   holds = record {
     named = c.in-Ok.ensures.names;
-    text = c.in-Ok.ensures.report;
+    text = c.in-Ok.ensures.records.1;
     asks = c.in-Ok.ensures.asked (λ e. cc);
     unfailing = c.in-Ok.ensures.faults.2 (λ e. cc);
     written = refl;
   };
-  asks = asks_same (g.F.Files.asked c.read_report_file.new.files) _ refl;
+  asks = asks_same (g.F.Files.asked c.records_of_file.new.files) _ refl;
   unfailing = refl;
-  ends = rw c.as_slice.ensures at c.write_rows.ensures.ends;
+  ends = c.write.ensures.ends _ _ c.in-Ok.ensures.records.0 c.in-Ok.ensures.records.2;
 })
 
 pub returns-in-Err-clause-ends : goal.returns-in-Err-clause-ends
 returns-in-Err-clause-ends g c = rw c.cause_of_report.ensures (inl (ends_at_file refusal.Report _ _
     (moment (g.F.Files.named c.args.files.now) (g.F.Files.left c.args.files.now) (g.F.Files.asked c.args.files.now)
     (g.F.Files.faults c.args.files.now) (g.O.Sink.taken c.args.out.now))
-    (moment (g.F.Files.named c.read_report_file.new.files) (g.F.Files.left c.read_report_file.new.files) (g.F.Files.asked c.read_report_file.new.files)
-    (g.F.Files.faults c.read_report_file.new.files) (g.O.Sink.taken c.args.out.now))
+    (moment (g.F.Files.named c.records_of_file.new.files) (g.F.Files.left c.records_of_file.new.files) (g.F.Files.asked c.records_of_file.new.files)
+    (g.F.Files.faults c.records_of_file.new.files) (g.O.Sink.taken c.args.out.now))
     _ c.in-Err.fault refl c.in-Err.ensures.refused c.in-Err.ensures.asks c.in-Err.ensures.asked c.in-Err.ensures.faults (Appends-nil _)))
 
 pub returns-in-Err-clause-reads : goal.returns-in-Err-clause-reads
