@@ -5,3 +5,4 @@ pub mod Finishing
 pub mod Sampled
 pub mod Answered
 pub mod Reread
+pub mod Promised

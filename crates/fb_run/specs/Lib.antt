@@ -8,3 +8,4 @@ pub mod SampleEndings
 pub mod RunEndings
 pub mod InternalBatches
 pub mod ReadBack
+pub mod Promise
