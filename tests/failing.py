@@ -40,6 +40,8 @@ def runs(hits):
     return bytes(end - start for start, end in zip(starts, ends))
 
 
+# What every third shot changes, in json.
+CHANGES = {"erasures": [2, 8], "dynamic_weights": [[5, 4], [0, 8], [5, 2]]}
 HITS = [[DETECTORS.index(v) for v in shot] for shot in SHOTS]
 RECORDS = {
     "01": ["".join("01"[v in shot] for v in DETECTORS).encode() + b"\n" for shot in SHOTS],
@@ -47,7 +49,10 @@ RECORDS = {
     "dets": [" ".join(["shot", *(f"D{k}" for k in hits)]).encode() + b"\n" for hits in HITS],
     "hits": [",".join(map(str, hits)).encode() + b"\n" for hits in HITS],
     "r8": [runs(hits) for hits in HITS],
-    "json": [json.dumps({"defect_vertices": shot}).encode() + b"\n" for shot in SHOTS],
+    "json": [
+        json.dumps({"defect_vertices": shot, **(CHANGES if k % 3 == 2 else {})}).encode() + b"\n"
+        for k, shot in enumerate(SHOTS)
+    ],
 }
 OBSERVABLES = [[0], [1, 2, 7], [], [*range(10)]]
 SAMPLE = {"distance": 3, "rounds": 3, "units": 2, "rate": 200_000, "start": 5, "shots": 4}
@@ -66,7 +71,7 @@ Outcome = namedtuple("Outcome", "answer log")
 
 def remember_least_weights():
     """Lets the oracle find the least weights of a graph once."""
-    find, found = oracle.least_weights, {}
+    find, found = oracle.LeastWeights, {}
 
     def least_weights(graph):
         key = (graph.vertices, tuple(graph.edges), tuple(graph.virtuals))
@@ -74,7 +79,7 @@ def remember_least_weights():
             found[key] = find(graph)
         return found[key]
 
-    oracle.least_weights = least_weights
+    oracle.LeastWeights = least_weights
 
 
 def oracle_complaints(command, files, answer, words=None):
@@ -215,7 +220,8 @@ def check_command(space, name, decode, change):
     files = {"graph.json": decode.files["graph.json"], "report": change(report), "shots": decode.files["shots"]}
     words = ["check", "--graph", "graph.json", "--shots", "shots", "--format", "01", "--report", "report"]
     graph, rows = readers.read_graph(files["graph.json"]), readers.read_report(files["report"]).rows
-    texts = [oracle.check_text(graph, rows, SHOTS[:count], False)[0] for count in range(len(SHOTS) + 1)]
+    shots = [readers.Shot(defects) for defects in SHOTS]
+    texts = [oracle.check_text(graph, rows, shots[:count], False)[0] for count in range(len(SHOTS) + 1)]
     return judged(space, Command(name, words, files, texts=texts))
 
 

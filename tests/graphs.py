@@ -113,6 +113,26 @@ def random_shot(draw, graph, most):
     return sorted(draw.sample(real, min(count, most, len(real))))
 
 
+def random_changes(draw, graph, defects):
+    """Erased edges, and pairs of an edge and a weight: of edges anywhere or of all near the defects, some of them twice."""
+    if draw.random() < 0.5:
+        rate = draw.choice([0.03, 0.1, 0.3, 1])
+        edges = [e for e in range(len(graph.edges)) if draw.random() < rate]
+    else:
+        near = set(defects)
+        for _ in range(draw.choice([0, 1, 2])):
+            near |= {end for u, v, _ in graph.edges if u in near or v in near for end in (u, v)}
+        edges = [e for e, (u, v, _) in enumerate(graph.edges) if u in near or v in near]
+    weights, share = draw.choice(SCALES), draw.choice([0, 0.3, 1])
+    erasures = [e for e in edges if draw.random() < share]
+    left = sorted(set(edges) - set(erasures)) + draw.sample(erasures, len(erasures) // 4)
+    pairs = [[e, draw.choice(weights)] for e in left + draw.sample(left, len(left) // 4)]
+    erasures += draw.sample(erasures, len(erasures) // 8)
+    draw.shuffle(erasures)
+    draw.shuffle(pairs)
+    return {"erasures": erasures, "dynamic_weights": pairs}
+
+
 def shot_of_edges(draw, graph):
     """The defects of random flipped edges; now and then one more or one fewer, so that there may be no correction."""
     virtuals, rate = set(graph.virtuals), draw.choice([0.02, 0.1, 0.3])

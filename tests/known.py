@@ -4,7 +4,7 @@ import itertools
 from collections import namedtuple
 
 import oracle
-from readers import Refused, build_graph, build_plan, read_graph, read_report, read_shots
+from readers import Refused, Shot, build_graph, build_plan, read_graph, read_report, read_shots
 from traces import trace_complaints
 
 Answer = namedtuple("Answer", "stdout stderr status")
@@ -163,9 +163,66 @@ SHOT_TEXTS = [
     (LINE, "json", b'{"defect_vertices":[1,1]}', [], "DefectRepeated shot 0"),
     (LINE, "json", b'{"erasures":[]}', [], "NoDefects shot 0"),
     (LINE, "json", b'{"defect_vertices":[1.0]}', [], "NoDefects shot 0"),
-    (LINE, "json", b'{"defect_vertices":[1],"erasures":[2]}', [], "ErasureNotTaken shot 0"),
     (LINE, "json", b'{"defect_vertices":[1],"erasures":null,"dynamic_weights":[]}', [[1]], None),
-    (LINE, "json", b'{"defect_vertices":[1],"dynamic_weights":{}}', [], "ErasureNotTaken shot 0"),
+]
+
+# Members of a syndrome on the line, and the weights that they change, or the refusal.
+CHANGES = [
+    (b"", []),
+    (b'"erasures":null,"dynamic_weights":null', []),
+    (b'"erasures":[3,1]', [(1, 0), (3, 0)]),
+    (b'"erasures":[3,3]', [(3, 0)]),
+    (b'"erasures":[2],"erasures":[]', []),
+    (b'"dynamic_weights":[[0,10]]', [(0, 10)]),
+    (b'"dynamic_weights":[[3,2],[1,1073741824],[0,0]]', [(0, 0), (1, 2**30), (3, 2)]),
+    (b'"dynamic_weights":[[2,8],[2,4]]', [(2, 4)]),
+    (b'"dynamic_weights":[[1,4]]', [(1, 4)]),
+    (b'"erasures":[2],"dynamic_weights":[[2,8]]', [(2, 0)]),
+    (b'"dynamic_weights":[[2,8]],"erasures":[2]', [(2, 0)]),
+    (b'"erasures":1', "NotChanges"),
+    (b'"erasures":false', "NotChanges"),
+    (b'"erasures":""', "NotChanges"),
+    (b'"erasures":{}', "NotChanges"),
+    (b'"erasures":[null]', "NotChanges"),
+    (b'"erasures":[-1]', "NotChanges"),
+    (b'"erasures":[-0]', "NotChanges"),
+    (b'"erasures":[2.0]', "NotChanges"),
+    (b'"erasures":[18446744073709551616]', "NotChanges"),
+    (b'"erasures":[99],"dynamic_weights":7', "NotChanges"),
+    (b'"erasures":[18446744073709551615]', "ShotEdgeOutOfRange"),
+    (b'"erasures":[4],"dynamic_weights":[[0,3]]', "ShotEdgeOutOfRange"),
+    (b'"erasures":[0],"dynamic_weights":[[0,3]]', "OddShotWeight"),
+    (b'"dynamic_weights":[0]', "NotChanges"),
+    (b'"dynamic_weights":[[]]', "NotChanges"),
+    (b'"dynamic_weights":[[0,2,4]]', "NotChanges"),
+    (b'"dynamic_weights":[[-1,2]]', "NotChanges"),
+    (b'"dynamic_weights":[[0,2.0]]', "NotChanges"),
+    (b'"dynamic_weights":[[0,-0]]', "NotChanges"),
+    (b'"dynamic_weights":[[0,18446744073709551616]]', "NotChanges"),
+    (b'"dynamic_weights":[[0,3],[0,true]]', "NotChanges"),
+    (b'"dynamic_weights":[[4,3]]', "ShotEdgeOutOfRange"),
+    (b'"dynamic_weights":[[0,2],[0,5]]', "OddShotWeight"),
+    (b'"dynamic_weights":[[0,5],[0,2]]', "OddShotWeight"),
+    (b'"dynamic_weights":[[0,-1]]', "OddShotWeight"),
+    (b'"dynamic_weights":[[0,1073741825]]', "OddShotWeight"),
+    (b'"dynamic_weights":[[0,1073741826]]', "ShotWeightTooLarge"),
+    (b'"dynamic_weights":[[0,18446744073709551614]]', "ShotWeightTooLarge"),
+    (b'"dynamic_weights":[[0,-2]]', "NegativeShotWeight"),
+    (b'"dynamic_weights":[[0,-9223372036854775808]]', "NegativeShotWeight"),
+    (b'"dynamic_weights":[[0,-2],[4,2]]', "NegativeShotWeight"),
+]
+
+# Defects on the line, changes, a row, its verdict, and the least weight of a correction.
+CHANGED_ROWS = [
+    ([1, 3], [(3, 0)], ("best", [0, 3], 2, [(2, [1])]), "Good", 2),
+    ([2], [(0, 10)], ("best", [2, 3], 8, [(4, [1, 2, 3]), (2, [2]), (2, [2, 3])]), "Good", 8),
+    ([1], [(2, 0)], ("best", [0], 2, [(2, [1])]), "Good", 2),
+    ([1], [(0, 2)], ("best", [0], 2, [(2, [1])]), "Good", 2),
+    ([1, 3], [(3, 0)], ("best", [1, 2], 6, [(2, [1]), (2, [2, 3]), (2, [3])]), "Overloaded 3", 2),
+    ([2], [(0, 10)], ("best", [0, 1], 6, [(2, [1, 2, 3]), (2, [2]), (2, [2, 3])]), "WeightNotSum 6 14", 8),
+    ([2], [(0, 10)], ("best", [0, 1], 14, [(2, [1, 2, 3]), (2, [2]), (2, [2, 3])]), "SumDiffers 14 6", 8),
+    ([1], [(0, 0)], ("best", [0], 0, []), "Good", 0),
+    ([1], [(0, 0)], ("best", [0], 2, [(2, [1])]), "WeightNotSum 2 0", 0),
 ]
 
 ROW_REPORT = b"""fusion-report 1
@@ -299,8 +356,8 @@ def refusal_of(read, *arguments):
 
 
 def defects_of(graph, record):
-    [defects] = read_shots("01", record.encode() + b"\n", graph).shots
-    return defects
+    [shot] = read_shots("01", record.encode() + b"\n", graph).shots
+    return shot.defects
 
 
 def known_rows():
@@ -309,7 +366,7 @@ def known_rows():
         defects = defects_of(graph, record)
         name = f"{record} on {len(graph.edges)} edges"
         yield name, oracle.verdict(graph, defects, ("best", edges, weight, cuts)), "Good"
-        yield f"{name}, least weight", oracle.least_weights(graph)[tuple(defects)], weight
+        yield f"{name}, least weight", oracle.LeastWeights(graph).of(Shot(defects)), weight
         yield f"{name}, odd component", oracle.odd_component(graph, defects), None
         others = [("weight above", ("best", edges, weight + 2, cuts))]
         others += [("a cut fewer", ("best", edges, weight, cuts[1:]))] if cuts else []
@@ -320,14 +377,28 @@ def known_rows():
         yield f"{record}: {row}", oracle.verdict(graph, defects_of(graph, record), row), answer
     two_parts = graph_of(TWO_PARTS)
     yield "odd component", oracle.odd_component(two_parts, [0, 1, 2]), 0
-    yield "no correction", oracle.least_weights(two_parts).get((0, 1, 2)), None
+    yield "no correction", oracle.LeastWeights(two_parts).of(Shot([0, 1, 2])), None
+
+
+def known_changed_rows():
+    line = graph_of(LINE)
+    for defects, changes, row, answer, least in CHANGED_ROWS:
+        shot = Shot(defects, tuple(changes))
+        yield f"{shot}: {row}", oracle.verdict(oracle.shot_graph(line, shot), defects, row), answer
+        yield f"{shot}, least weight", oracle.LeastWeights(line).of(shot), least
+        yield f"{shot}, complaint", oracle.complaint(line, shot, list(row), None) is None, answer == "Good"
 
 
 def known_texts():
     for text, fault in GRAPH_TEXTS:
         yield f"graph {text[:70]}", refusal_of(read_graph, text), fault
     for parts, form, text, shots, fault in SHOT_TEXTS:
-        yield f"{form} {text[:70]}", read_shots(form, text, graph_of(parts)), (shots, fault)
+        read = [Shot(defects) for defects in shots]
+        yield f"{form} {text[:70]}", read_shots(form, text, graph_of(parts)), (read, fault)
+    for members, found in CHANGES:
+        text = b'{"defect_vertices":[]%s}' % (b"," * bool(members) + members)
+        read = ([], f"{found} shot 0") if isinstance(found, str) else ([Shot([], tuple(found))], None)
+        yield f"json {text[:70]}", read_shots("json", text, graph_of(LINE)), read
     for old, new, fault in CHANGED_REPORTS:
         yield f"{old} as {new}", refusal_of(read_report, ROW_REPORT.replace(old, new)), fault
     for at in range(len(ROW_REPORT)):
@@ -386,7 +457,7 @@ def known_events():
 
 def main():
     passed = failed = 0
-    for part in [known_rows(), known_texts(), known_answers(), known_events()]:
+    for part in [known_rows(), known_changed_rows(), known_texts(), known_answers(), known_events()]:
         for name, found, known in part:
             if found == known:
                 passed += 1

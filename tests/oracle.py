@@ -39,16 +39,33 @@ def weight_of(graph, edges):
     return total
 
 
-def least_weights(graph):
-    """Of each set of defects that some edges correct, the least weight of such edges, by trying every set of edges."""
-    least = {}
-    for chosen in range(2 ** len(graph.edges)):
-        edges = [e for e in range(len(graph.edges)) if chosen >> e & 1]
-        defects = tuple(odd_vertices(graph, edges))
-        weight = weight_of(graph, edges)
-        if defects not in least or weight < least[defects]:
-            least[defects] = weight
-    return least
+def shot_graph(graph, shot):
+    """The graph with the weights of a shot."""
+    if not shot.changes:
+        return graph
+    edges = list(graph.edges)
+    for e, weight in shot.changes:
+        u, v, _ = edges[e]
+        edges[e] = (u, v, weight)
+    return graph._replace(edges=edges)
+
+
+class LeastWeights:
+    """The least weights of corrections in one graph, by trying every set of edges."""
+
+    def __init__(self, graph):
+        self.graph, self.corrections, self.found = graph, {}, {}
+        for chosen in range(2 ** len(graph.edges)):
+            edges = [e for e in range(len(graph.edges)) if chosen >> e & 1]
+            self.corrections.setdefault(tuple(odd_vertices(graph, edges)), []).append(edges)
+
+    def of(self, shot):
+        """The least weight of a correction, with the weights of the shot; None where there is no correction."""
+        key = tuple(shot.defects), shot.changes
+        if key not in self.found:
+            graph, corrections = shot_graph(self.graph, shot), self.corrections.get(key[0], [])
+            self.found[key] = min((weight_of(graph, edges) for edges in corrections), default=None)
+        return self.found[key]
 
 
 # Components.
@@ -160,25 +177,25 @@ def cut_verdict(graph, defects, cuts, j):
 # The rows of decode.
 
 
-def complaint(graph, defects, row, least):
+def complaint(graph, shot, row, least):
     """What is wrong with a row; None where it is right. `least` has the least weights, where they are known."""
-    odd = odd_component(graph, defects)
+    odd = odd_component(graph, shot.defects)
     if odd is not None:
         return None if row == ["odd", odd] else f"{row} where {odd} is odd"
     if row[0] != "best":
         return f"{row} where there is a correction"
-    answer = verdict(graph, defects, row)
+    answer = verdict(shot_graph(graph, shot), shot.defects, row)
     if answer != "Good":
         return f"{answer}: {row}"
-    if least is not None and row[2] != least.get(tuple(defects)):
-        return f"weight {row[2]} where the least is {least.get(tuple(defects))}"
+    if least is not None and row[2] != least.of(shot):
+        return f"weight {row[2]} where the least is {least.of(shot)}"
     return None
 
 
 def report_complaints(graph, shots, is_whole, text, items=(1, 0)):
     """What is wrong with a report of shots; where it isn't whole, it ends after their rows. `items` are how many units and
     fusions each correction counts."""
-    odd = sum(odd_component(graph, defects) is not None for defects in shots)
+    odd = sum(odd_component(graph, shot.defects) is not None for shot in shots)
     last = b"" if is_whole else b"done %d odd %d units 0 fusions 0\n" % (len(shots), odd)
     try:
         report = read_report(text + last)
@@ -187,8 +204,8 @@ def report_complaints(graph, shots, is_whole, text, items=(1, 0)):
     if len(report.rows) != len(shots):
         return [f"{len(report.rows)} rows for {len(shots)} shots"]
     is_small = len(graph.edges) <= MOST_TRIED_EDGES and graph.vertices <= MOST_TRIED_VERTICES
-    least = least_weights(graph) if is_small else None
-    found = [complaint(graph, defects, row, least) for defects, row in zip(shots, report.rows)]
+    least = LeastWeights(graph) if is_small else None
+    found = [complaint(graph, shot, row, least) for shot, row in zip(shots, report.rows)]
     complaints = [f"shot {k}: {wrong}" for k, wrong in enumerate(found) if wrong]
     best = sum(row[0] == "best" for row in report.rows)
     if is_whole and (report.units, report.fusions) != (best * items[0], best * items[1]):
@@ -198,7 +215,7 @@ def report_complaints(graph, shots, is_whole, text, items=(1, 0)):
 
 def decode_status(graph, shots):
     """The status of a run that reads its input to its end."""
-    return 1 if any(odd_component(graph, defects) is not None for defects in shots) else 0
+    return 1 if any(odd_component(graph, shot.defects) is not None for shot in shots) else 0
 
 
 # The text of check.
@@ -208,8 +225,8 @@ def check_text(graph, rows, shots, is_whole):
     """The text that judges the rows of a report; where it isn't whole, the shots were read up to a refusal."""
     out = ["check-report 1"]
     bad = 0
-    for k, (defects, row) in enumerate(zip(shots, rows)):
-        answer = verdict(graph, defects, row)
+    for k, (shot, row) in enumerate(zip(shots, rows)):
+        answer = verdict(shot_graph(graph, shot), shot.defects, row)
         bad += answer != "Good"
         out.append(f"shot {k} good" if answer == "Good" else f"shot {k} bad {answer}")
     if is_whole:
@@ -344,7 +361,7 @@ def events_complaints(options, plan, graph, shots, text):
     if "--trace" not in options:
         found = any(line.startswith((b"took ", b"gave ")) for line in text.splitlines())
         return ["events that weren't asked for"] if found else []
-    best = {k for k, defects in enumerate(shots) if odd_component(graph, defects) is None}
+    best = {k for k, shot in enumerate(shots) if odd_component(graph, shot.defects) is None}
     workers, window = options.get("--workers", 1), options.get("--window", 1)
     return trace_complaints(plan, workers, window, best, len(shots), text)
 

@@ -271,17 +271,18 @@ def are_related(plan, a, b):
     return low == high
 
 
-# The shots.
+# The shots. Changes are the edges that weigh otherwise in a shot, rising, each with its weight there.
 
+Shot = namedtuple("Shot", "defects changes", defaults=[()])
 Shots = namedtuple("Shots", "shots refusal")
 
 
 def read_shots(form, text, graph):
-    """The defects of each shot before the first refusal, or of all; and that refusal, with the shot that it stopped."""
+    """The shots before the first refusal, or all; and that refusal, with the shot that it stopped."""
     shots = []
     try:
-        for defects in RECORDS[form](text, graph):
-            shots.append(sorted(defects))
+        for record in RECORDS[form](text, graph):
+            shots.append(record if form == "json" else Shot(sorted(record)))
     except Refused as kind:
         return Shots(shots, f"{kind} shot {len(shots)}")
     return Shots(shots, None)
@@ -398,7 +399,8 @@ def records_json(text, graph):
             continue
         if len(line) > MOST_LINE_BYTES:
             raise Refused("LineTooLong")
-        yield defects_of(read_json(without_return(line)), graph)
+        value = read_json(without_return(line))
+        yield Shot(sorted(defects_of(value, graph)), changes_of(value, graph))
 
 
 def defects_of(value, graph):
@@ -413,10 +415,34 @@ def defects_of(value, graph):
             raise Refused("DefectOnVirtual")
         if vertex in entries[:i]:
             raise Refused("DefectRepeated")
-    for member in ["erasures", "dynamic_weights"]:
-        if value.get(member) not in [None, []]:
-            raise Refused("ErasureNotTaken")
     return entries
+
+
+def is_pair(value):
+    return isinstance(value, list) and len(value) == 2 and is_count(value[0]) and is_whole(value[1])
+
+
+def changes_of(value, graph):
+    """The changes of a syndrome: an erased edge weighs nothing, and of several pairs of an edge the last counts."""
+    lists = [value.get(member) for member in ["erasures", "dynamic_weights"]]
+    erasures, pairs = ([] if each is None else each for each in lists)
+    for entries, is_right in [(erasures, is_count), (pairs, is_pair)]:
+        if not isinstance(entries, list) or not all(map(is_right, entries)):
+            raise Refused("NotChanges")
+    for e in erasures:
+        if e >= len(graph.edges):
+            raise Refused("ShotEdgeOutOfRange")
+    for e, weight in pairs:
+        if e >= len(graph.edges):
+            raise Refused("ShotEdgeOutOfRange")
+        if weight % 2 == 1:
+            raise Refused("OddShotWeight")
+        if weight > MOST_WEIGHT:
+            raise Refused("ShotWeightTooLarge")
+        if weight < 0:
+            raise Refused("NegativeShotWeight")
+    changes = {**dict(pairs), **dict.fromkeys(erasures, 0)}
+    return tuple(sorted(changes.items()))
 
 
 RECORDS = {

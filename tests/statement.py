@@ -34,6 +34,11 @@ LAW_TITLE = "Why no correction weighs less"
 LAW_HEAD = """\
 That is a law of all problems and rows, proved in `fb_graph` (`least_weight` in `src/laws.rt`):
 """
+WORDS = "fb_run.specs.Promise"
+WORDS_TITLE = "What a finished decode has written"
+WORDS_HEAD = """\
+In the problem's own words, and proved of the clause `ends` of `run` below (`decodes_right` in `fb_run`, `src/laws.rt`):
+"""
 RUN_TITLE = "What `run` promises"
 RUN_HEAD = """\
 `main` calls it with the real files and streams (`fb_run`, `src/running.rt`):
@@ -95,6 +100,7 @@ def page():
     core = core_rows(modules)
     sections = [(CORE_TITLE, section(found, [name for _, files in core for name in files]))]
     sections += [(LAW_TITLE, f"{LAW_HEAD}\n{section({LAW[0]: {LAW[1]}}, [LAW[0]])}")]
+    sections += [(WORDS_TITLE, f"{WORDS_HEAD}\n{section({WORDS: set(modules[WORDS].shown)}, [WORDS])}")]
     sections += [(RUN_TITLE, f"{RUN_HEAD}\n{block([clauses_of_run()], 'rust')}")]
     for about, files in rows():
         if (about, files) not in core and found.keys() & set(files):

@@ -1,5 +1,6 @@
 //! Calls that no run of the program makes, on samples whose answers are known: of links, blossoms, trees, parts, boards,
-//! workers, windows, plans by layers, and files and sinks in memory. Then random moves on a dual state, beside a plain one.
+//! workers, windows, weights of shots, plans by layers, and files and sinks in memory. Then random moves on a dual state,
+//! beside a plain one.
 //!
 //! Its arguments are a seed, the number of rounds, and that of the moves on each part of a graph. It prints what differs,
 //! and how many samples and comparisons passed.
@@ -34,6 +35,7 @@ mod stopped;
 mod streams;
 mod walks;
 mod watching;
+mod weights;
 mod windows;
 mod workers;
 
@@ -80,6 +82,9 @@ fn main(rt: HostRuntime) -> io::Result<()> {
         ("windows have places among all shots", windows::have_places_among_all_shots(&rt, alloc)),
         ("windows on the calling thread", windows::are_made_on_the_calling_thread(alloc)),
         ("tools count what is done", windows::count_what_is_done(&rt, alloc)),
+        ("weights are those of the shot", weights::are_those_of_the_shot(alloc)),
+        ("weights decide which row is good", weights::decide_what_is_good(alloc)),
+        ("weights leave odd shots odd", weights::leave_odd_shots_odd(alloc)),
         ("layers are distances from the least vertex", layers::are_distances(alloc)),
         ("layers are cut as rounds are", layers::are_cut(alloc)),
         ("more units want more layers", layers::are_too_few(alloc)),

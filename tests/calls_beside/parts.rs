@@ -6,7 +6,7 @@ use fb_crew::{Hands, OpenGate, Solved, Solver, Tools, decode_window, work_all};
 use fb_fuse::fuse;
 use fb_graph::{NoMemory, Row, Scope, Shot, Steps, components};
 use fb_half::{Half, Standing, Work};
-use fb_plan::{Job, NodeScope, Plan};
+use fb_plan::{Job, Plan};
 use fb_resolve::resolve;
 use fb_search::search;
 use fb_unit::solve_unit;
@@ -150,11 +150,7 @@ impl<'a> Looking<'a> {
 
     /// Whether each defect of the shot is matched exactly where it is the part's own.
     fn matches_all(&self, half: &Half<'a>) -> bool {
-        let scope = NodeScope {
-            graph: self.job.graph(),
-            plan: self.job.plan(),
-            node: half.node(),
-        };
+        let scope = self.job.scope(half.slot(), half.node());
         for v in self.job.shots()[half.slot() as usize].as_slice() {
             if scope.is_real(*v) != is_matched(half, *v) {
                 return false;

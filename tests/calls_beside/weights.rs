@@ -1,0 +1,108 @@
+//! Shots in which some edges weigh otherwise than in their graph, and the verdicts of their rows.
+
+use crate::lines::{Known, Line};
+use crate::stopped::Stopped;
+use fb_graph::{Cut, CutList, Graph, NumberList, Row, Shot};
+use fb_verify::{Judge, Verdict, check_row};
+use std::alloc::Global;
+
+/// What the line's edges weigh.
+const WEIGHTS: [i128; 4] = [4, 2, 6, 8];
+
+/// The shot of these defects and changes.
+fn shot_of(alloc: Global, graph: &Graph, defects: &[u32], changes: &[(u32, u64)]) -> Result<Shot, Stopped> {
+    let changes = Vec::from_slice(alloc, changes)?;
+    Ok(Shot::with_changes(graph, Vec::from_slice(alloc, defects)?, changes)?)
+}
+
+/// Whether the shot has these defects, and the graph's edges have these weights for it.
+fn is_shot(shot: &Shot, graph: &Graph, defects: &[u32], weights: &[u64]) -> bool {
+    graph.edge_count() as usize == weights.len()
+        && shot.as_slice() == defects
+        && (0..graph.edge_count()).zip(weights.iter()).all(|(e, weight)| shot.weight(graph, e) == *weight)
+}
+
+/// Whether the shot and a copy of it have these defects and weights, the copy also after the shot is gone.
+fn are_alike(alloc: Global, shot: Shot, graph: &Graph, defects: &[u32], weights: &[u64]) -> Result<bool, Stopped> {
+    let is_right = is_shot(&shot, graph, defects, weights);
+    let copy = shot.copy(alloc)?;
+    drop(shot);
+    Ok(is_right && is_shot(&copy, graph, defects, weights))
+}
+
+/// Changes of no edge, of the first and the last one, of two in the middle, of all, and one that changes nothing.
+pub fn are_those_of_the_shot(alloc: Global) -> Result<(), Stopped> {
+    let line = Line::new(alloc, &WEIGHTS, &[])?;
+    let graph = &line.graph;
+    let plain = Shot::from_defects(graph, Vec::from_slice(alloc, &[3, 1])?)?;
+    Stopped::unless(are_alike(alloc, plain, graph, &[1, 3], &[4, 2, 6, 8])?, "a shot without changes")?;
+    let ends = shot_of(alloc, graph, &[2, 3, 1], &[(0, 10), (3, 0)])?;
+    Stopped::unless(are_alike(alloc, ends, graph, &[1, 2, 3], &[10, 2, 6, 0])?, "the first and the last edge")?;
+    let middle = shot_of(alloc, graph, &[], &[(1, 0), (2, 1 << 30)])?;
+    Stopped::unless(are_alike(alloc, middle, graph, &[], &[4, 0, 1 << 30, 8])?, "two edges in the middle")?;
+    let all = shot_of(alloc, graph, &[2], &[(0, 8), (1, 6), (2, 2), (3, 4)])?;
+    Stopped::unless(are_alike(alloc, all, graph, &[2], &[8, 6, 2, 4])?, "all edges")?;
+    let same = shot_of(alloc, graph, &[2], &[(2, 6)])?;
+    Stopped::unless(are_alike(alloc, same, graph, &[2], &[4, 2, 6, 8])?, "a change to the same weight")
+}
+
+/// The row of a correction with these cuts.
+fn row_of(alloc: Global, edges: &[u32], weight: u64, cuts: &[Known<'_>]) -> Result<Row, Stopped> {
+    let mut list = Vec::new(alloc);
+    for (value, vertices) in cuts {
+        let vertices = NumberList::from_vec(Vec::from_slice(alloc, vertices)?);
+        list.push(Cut {
+            value: *value,
+            vertices,
+        })?;
+    }
+    Ok(Row::Best {
+        edges: NumberList::from_vec(Vec::from_slice(alloc, edges)?),
+        weight,
+        cuts: CutList::from_vec(list),
+    })
+}
+
+/// The defect at 1, whose best correction is edge 0: a row that is good by the graph's weights is bad by the shot's, and the
+/// other way round, with edge 0 erased, with edge 2 erased, and with edge 1 heavier.
+pub fn decide_what_is_good(alloc: Global) -> Result<(), Stopped> {
+    let line = Line::new(alloc, &WEIGHTS, &[])?;
+    let graph = &line.graph;
+    let plain = shot_of(alloc, graph, &[1], &[])?;
+    let row = row_of(alloc, &[0], 4, &[(2, &[1]), (2, &[1, 2])])?;
+    Stopped::unless(matches!(check_row(alloc, graph, &plain, &row)?, Verdict::Good), "the row of the graph")?;
+
+    let erased = shot_of(alloc, graph, &[1], &[(0, 0)])?;
+    let found = check_row(alloc, graph, &erased, &row)?;
+    Stopped::unless(matches!(found, Verdict::WeightNotSum(4, 0)), "the row of the graph with edge 0 erased")?;
+    let free = row_of(alloc, &[0], 0, &[])?;
+    Stopped::unless(matches!(check_row(alloc, graph, &erased, &free)?, Verdict::Good), "the row with edge 0 erased")?;
+    let found = check_row(alloc, graph, &plain, &free)?;
+    Stopped::unless(matches!(found, Verdict::WeightNotSum(0, 4)), "that row for a shot without changes")?;
+
+    let erased = shot_of(alloc, graph, &[1], &[(2, 0)])?;
+    let found = check_row(alloc, graph, &erased, &row)?;
+    Stopped::unless(matches!(found, Verdict::Overloaded(2)), "the row of the graph with edge 2 erased")?;
+    let wide = row_of(alloc, &[0], 4, &[(2, &[1]), (2, &[1, 2, 3])])?;
+    Stopped::unless(matches!(check_row(alloc, graph, &erased, &wide)?, Verdict::Good), "the row with edge 2 erased")?;
+
+    let heavier = shot_of(alloc, graph, &[1], &[(1, 4)])?;
+    let single = row_of(alloc, &[0], 4, &[(4, &[1])])?;
+    Stopped::unless(matches!(check_row(alloc, graph, &heavier, &single)?, Verdict::Good), "the row with edge 1 heavier")?;
+    let found = check_row(alloc, graph, &plain, &single)?;
+    Stopped::unless(matches!(found, Verdict::Overloaded(1)), "that row for a shot without changes")
+}
+
+/// Without boundary one defect has no correction, whatever the edges weigh: an erased edge still joins its ends.
+pub fn leave_odd_shots_odd(alloc: Global) -> Result<(), Stopped> {
+    let graph = Graph::build(alloc, 3, &[(0, 1, 4), (1, 2, 6)], &[])?;
+    let mut judge = Judge::new(&graph);
+    for changes in [[].as_slice(), &[(0, 0)], &[(0, 0), (1, 0)]] {
+        let shot = shot_of(alloc, &graph, &[1], changes)?;
+        let found = judge.check_row(alloc, &shot, &Row::Odd(0))?;
+        Stopped::unless(matches!(found, Verdict::Good), "the odd row of the least vertex")?;
+        let found = judge.check_row(alloc, &shot, &Row::Odd(1))?;
+        Stopped::unless(matches!(found, Verdict::OddWrong(1)), "the odd row of the defect")?;
+    }
+    Ok(())
+}
