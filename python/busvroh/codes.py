@@ -17,8 +17,9 @@ import math
 import random
 from collections import defaultdict, namedtuple
 
-# What may happen in a shot: its rate, and the detectors and observables that it flips, rising.
-Error = namedtuple("Error", "rate detectors observables")
+# What may happen in a shot: its rate, and the detectors and observables that it flips, rising. If matching has to part it,
+# its parts have the detectors and observables of each.
+Error = namedtuple("Error", "rate detectors observables parts", defaults=((),))
 
 
 class Code:
@@ -35,8 +36,8 @@ class Code:
         """The detector error model in Stim's form."""
         lines = []
         for error in self.errors:
-            targets = [*(f"D{k}" for k in error.detectors), *(f"L{k}" for k in error.observables)]
-            lines.append(" ".join([f"error({error.rate!r})", *targets]))
+            parts = error.parts or [(error.detectors, error.observables)]
+            lines.append(" ".join([f"error({error.rate!r})", " ^ ".join(targets_of(*part) for part in parts)]))
         lines += [f"detector({', '.join(map(str, each))}) D{k}" for k, each in enumerate(self.coordinates)]
         lines += [f"logical_observable L{k}" for k in range(self.observables)]
         return "".join(f"{line}\n" for line in lines)
@@ -61,6 +62,10 @@ class Code:
                 flips ^= effect[1]
                 shot_of_next, *effect = next(happened, (count, 0, 0))
             yield detectors, flips
+
+
+def targets_of(detectors, observables):
+    return " ".join([*(f"D{k}" for k in detectors), *(f"L{k}" for k in observables)])
 
 
 def bits_of(numbers):

@@ -10,8 +10,8 @@ import io
 import json
 import math
 import time
-from collections import deque, namedtuple
-from dataclasses import dataclass
+from collections import Counter, deque, namedtuple
+from dataclasses import dataclass, replace
 from itertools import islice, zip_longest
 from statistics import NormalDist
 
@@ -91,28 +91,36 @@ def parts_of(decoding, pairs):
 
 @dataclass
 class Count:
+    """How many shots were decoded, how many of them discarded as not sure enough, and of the others how many wrongly."""
+
     shots: int = 0
     errors: int = 0
     odd: int = 0
     seconds: float = 0
+    discards: int = 0
+
+    @property
+    def kept(self):
+        return self.shots - self.discards
 
     @property
     def rate(self):
-        return self.errors / self.shots if self.shots else math.nan
+        return self.errors / self.kept if self.kept else math.nan
 
     def interval(self):
         """Bounds of the rate by Wilson's score, which hold it with a probability of 95 %."""
-        if self.shots == 0:
+        if self.kept == 0:
             return 0.0, 1.0
         z2 = NormalDist().inv_cdf((1 + CONFIDENCE) / 2) ** 2
-        spread = math.sqrt(z2 * (self.rate * (1 - self.rate) + z2 / (4 * self.shots)) / self.shots)
-        middle, divisor = self.rate + z2 / (2 * self.shots), 1 + z2 / self.shots
+        spread = math.sqrt(z2 * (self.rate * (1 - self.rate) + z2 / (4 * self.kept)) / self.kept)
+        middle, divisor = self.rate + z2 / (2 * self.kept), 1 + z2 / self.kept
         return max(0.0, (middle - spread) / divisor), min(1.0, (middle + spread) / divisor)
 
     def table(self):
         low, high = self.interval()
         rows = [
             ("shots", f"{self.shots}"),
+            *([("kept", f"{self.kept}")] if self.discards else []),
             ("logical errors", f"{self.errors}"),
             ("rate", f"{self.rate:.3g}, from {low:.3g} to {high:.3g} (95 %)"),
             ("odd shots", f"{self.odd}"),
@@ -128,11 +136,35 @@ class Count:
         words = [json.dumps(metadata, separators=(",", ":"), sort_keys=True), counts]
         csv.writer(line, lineterminator="\n").writerow(["busvroh", name, *words])
         seconds = round(self.seconds, 3 if self.seconds < 1 else 1)
-        return f"{self.shots:>10},{self.errors:>10},{0:>10},{seconds:>8},{line.getvalue()}"
+        return f"{self.shots:>10},{self.errors:>10},{self.discards:>10},{seconds:>8},{line.getvalue()}"
 
 
-def count_errors(decoding, parts, report=None):
-    """Decodes parts of shots, and compares the flips. `report` is called with the count after each part."""
+class Surest:
+    """How many shots there were of each gap, and how many of them were decoded wrongly."""
+
+    def __init__(self):
+        self.shots, self.errors = Counter(), Counter()
+
+    def add(self, gap, is_wrong):
+        self.shots[gap] += 1
+        self.errors[gap] += is_wrong
+
+    def count(self, whole, share):
+        """The count where the least sure shots are discarded. Shots of one gap are all kept or all discarded; at least the
+        share is kept."""
+        errors, left = whole.errors, math.floor(round((1 - share) * whole.shots, 6))
+        discards = 0
+        for gap in sorted(self.shots):
+            if discards + self.shots[gap] > left:
+                break
+            discards += self.shots[gap]
+            errors -= self.errors[gap]
+        return replace(whole, errors=errors, discards=discards)
+
+
+def count_errors(decoding, parts, report=None, surest=None):
+    """Decodes parts of shots, and compares the flips. `report` is called with the count after each part, and `surest` is
+    given the gap of each shot, if the decoding finds gaps."""
     count, begun, true_flips, size = Count(), time.monotonic(), deque(), decoding.observables.size
 
     def without_flips():
@@ -143,7 +175,11 @@ def count_errors(decoding, parts, report=None):
     for flips in decoding.flips(without_flips()):
         true = true_flips.popleft()
         count.shots += flips.shots
-        count.errors += sum(flips.bits[k : k + size] != true[k : k + size] for k in range(0, len(true), size or 1))
+        wrong = [flips.bits[k : k + size] != true[k : k + size] for k in range(0, len(true), size or 1)]
+        count.errors += sum(wrong)
+        if surest:
+            for each in zip(flips.gaps, wrong):
+                surest.add(*each)
         count.odd += flips.odd
         count.seconds = time.monotonic() - begun
         if report:

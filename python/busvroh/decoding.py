@@ -1,6 +1,7 @@
 """Decodes many shots of a model, a part of them by each run of `fusion decode`; its report goes to `fusion predict`."""
 
 import contextlib
+import math
 import re
 import subprocess
 import tempfile
@@ -13,10 +14,11 @@ from busvroh.bits import bytes_of
 from busvroh.flips import Observables
 from busvroh.models import DEFAULT_SCALE, graph_text, read_model
 from busvroh.program import abandon, judge_end, start
-from busvroh.rows import ReportError, Unfinished
+from busvroh.rows import ReportError, ReportTooLong, Unfinished
 
 DECODE_OPTIONS = ["--shots", "-", "--format", "b8", "--window", "64"]
 PREDICT_OPTIONS = ["--report", "-", "--to", "b8"]
+GRAPH = "graph.json"
 MOST_REPORT_BYTES = 1 << 30
 PIECE_BYTES = 1 << 16
 LAST_LINE = re.compile(rb"done (\d+) odd (\d+) units \d+ fusions \d+\n\Z")
@@ -28,16 +30,15 @@ Part = namedtuple("Part", "shots bits")
 Flips = namedtuple("Flips", "shots bits odd")
 
 
-class ReportTooLong(ReportError):
-    """A report of more bytes than may be read."""
-
-
 @dataclass(frozen=True)
 class Settings:
     """How shots are decoded: by which program, and how many parts at once, each by one process that works at a time.
 
     A part has at most `part_bytes`, or one shot. One whose report is longer than `most_report_bytes` is halved. Memory
     grows with the parts and not with their number: `fusion predict` keeps the report of a part.
+
+    If `correlated` each shot is decoded a second time, by weights that a `rule` of `busvroh.correlations` gives; with
+    `second_pass_below` only where the bound of `busvroh.confidence`, divided by the scale, is below that.
     """
 
     program: str
@@ -46,6 +47,9 @@ class Settings:
     skip_hyperedges: bool = False
     part_bytes: int = 1 << 18
     most_report_bytes: int = MOST_REPORT_BYTES
+    correlated: bool = False
+    rule: str = "bayes"
+    second_pass_below: float = math.inf
 
     def __post_init__(self):
         if self.processes < 1:
@@ -56,10 +60,18 @@ class Decoding:
     """A model that is ready to be decoded."""
 
     def __init__(self, lines, settings):
-        model = read_model(lines, settings.skip_hyperedges)
+        model = read_model(lines, settings.skip_hyperedges, mechanisms=settings.correlated)
         graph = model.graph(settings.scale)
         self.settings, self.detectors, self.edges = settings, model.detectors, graph["weighted_edges"]
         self.observables, self.graph_text = Observables(graph["observables"]), graph_text(graph)
+        self.prepare(model, graph)
+
+    def prepare(self, model, graph):
+        """What else is made of the model."""
+
+    def write_graphs(self, folder):
+        """Writes the graphs that the runs read."""
+        (folder / GRAPH).write_text(self.graph_text)
 
     @property
     def shot_bytes(self):
@@ -84,63 +96,73 @@ class Decoding:
     def flips(self, parts, folder=None):
         """The flips of each part, one after another. As many parts are held at a time as there are processes."""
         with tempfile.TemporaryDirectory(dir=folder) as inner:
-            graph = Path(inner) / "graph.json"
-            graph.write_text(self.graph_text)
+            folder = Path(inner)
+            self.write_graphs(folder)
             if self.settings.processes == 1:
-                yield from (self.flips_of_part(graph, part) for part in parts)
+                yield from (self.flips_of_part(folder, part) for part in parts)
                 return
             with ThreadPoolExecutor(self.settings.processes) as pool:
                 under_way = deque()
                 for part in parts:
-                    under_way.append(pool.submit(self.flips_of_part, graph, part))
+                    under_way.append(pool.submit(self.flips_of_part, folder, part))
                     if len(under_way) == self.settings.processes:
                         yield under_way.popleft().result()
                 while under_way:
                     yield under_way.popleft().result()
 
-    def flips_of_part(self, graph, part):
+    def flips_of_part(self, folder, part):
         if self.detectors == 0:
             return Flips(part.shots, bytearray(part.shots * self.observables.size), 0)
         try:
-            return self.flips_by_run(graph, part)
+            return self.flips_by_run(folder, part)
         except ReportTooLong:
             if part.shots < 2:
                 raise
         half = part.shots // 2
         cut = half * self.shot_bytes
-        one = self.flips_of_part(graph, Part(half, part.bits[:cut]))
-        other = self.flips_of_part(graph, Part(part.shots - half, part.bits[cut:]))
+        one = self.flips_of_part(folder, Part(half, part.bits[:cut]))
+        other = self.flips_of_part(folder, Part(part.shots - half, part.bits[cut:]))
         return Flips(part.shots, one.bits + other.bits, one.odd + other.odd)
 
-    def flips_by_run(self, graph, part):
+    def flips_by_run(self, folder, part):
         """The flips of a part by a run of `decode`, and one of `predict` that reads its report."""
-        program, names = self.settings.program, ["--graph", graph]
         with contextlib.ExitStack() as runs:
-            shots = runs.enter_context(tempfile.TemporaryFile(dir=graph.parent))
+            shots = runs.enter_context(tempfile.TemporaryFile(dir=folder))
             shots.write(part.bits)
             shots.seek(0)
-            decode = runs.enter_context(start([program, "decode", *names, *DECODE_OPTIONS], shots))
-            words = [program, "predict", *names, "--observables", graph, *PREDICT_OPTIONS]
-            predict = runs.enter_context(start(words, subprocess.PIPE))
-            runs.callback(abandon, predict)
-            rows, odd = rows_of_report(self.report_to(predict, decode))
-            bits = predict.stdout.read()
-            judge_end(predict)
-        if (rows, len(bits)) != (part.shots, part.shots * self.observables.size):
-            raise ReportError(f"a report of {rows} rows, and {len(bits)} bytes of flips, for {part.shots} shots")
+            words = [self.settings.program, "decode", "--graph", folder / GRAPH, *DECODE_OPTIONS]
+            decode = runs.enter_context(start(words, shots))
+            predict = self.start_predict(folder, runs)
+            return self.predicted(predict, decode.stdout, lambda: judge_end(decode), lambda: part.shots)
+
+    def start_predict(self, folder, runs):
+        """Starts a run of `predict` that ends with `runs`."""
+        names = ["--graph", folder / GRAPH, "--observables", folder / GRAPH]
+        predict = runs.enter_context(start([self.settings.program, "predict", *names, *PREDICT_OPTIONS], subprocess.PIPE))
+        runs.callback(abandon, predict)
+        return predict
+
+    def predicted(self, predict, report, judge, shots):
+        """The flips that a run of `predict` finds in a report. At the report's end `judge` judges the run that wrote it, and
+        then `shots` says how many rows it has to have."""
+        rows, odd = rows_of_report(self.report_to(predict, report, judge))
+        bits = predict.stdout.read()
+        judge_end(predict)
+        if (rows, len(bits)) != (shots(), shots() * self.observables.size):
+            raise ReportError(f"a report of {rows} rows, and {len(bits)} bytes of flips, for {shots()} shots")
         return Flips(rows, bits, odd)
 
-    def report_to(self, predict, decode):
-        """Copies the report of a run of `decode` to one of `predict`, and returns its end, which has the last line."""
+    def report_to(self, predict, report, judge):
+        """Copies a report to a run of `predict`, and returns its end, which has the last line."""
         size, end, most = 0, b"", self.settings.most_report_bytes
         try:
-            while piece := decode.stdout.read1(PIECE_BYTES):
+            while piece := report.read1(PIECE_BYTES):
                 size += len(piece)
                 if size > most:
                     raise ReportTooLong(f"the report has more than {most} bytes")
                 predict.stdin.write(piece)
                 end = (end + piece)[-MOST_LAST_LINE:]
-            judge_end(decode)
+            judge()
             predict.stdin.close()
         except BrokenPipeError:
             judge_end(predict)

@@ -4,6 +4,7 @@
         flips = matching.decode(syndrome)
 """
 
+import contextlib
 import select
 import subprocess
 import tempfile
@@ -12,12 +13,47 @@ from itertools import repeat
 from pathlib import Path
 
 from busvroh.bits import array_of, demand_packed, is_array, packed, rows_of, unpacked, values_of
-from busvroh.decoding import Decoding, Settings
+from busvroh.decoding import GRAPH, Part, Settings
 from busvroh.models import DEFAULT_SCALE
 from busvroh.program import find_program, judge_end, start
 from busvroh.rows import ODD, Row, Rows, Unfinished
+from busvroh.two_passes import SECOND_GRAPH, decoding_of
 
 BOUNDARY = -1
+
+
+class Answering:
+    """A run of `decode` that gives the row of each shot before the next one has to be written."""
+
+    def __init__(self, program, graph, form):
+        words = [program, "decode", "--graph", graph, "--shots", "-", "--format", form, "--window", "1"]
+        self.run = start(words, subprocess.PIPE)
+        # The first line of the report comes once the graph is read.
+        self.report = self.answer(lambda: Rows(self.run.stdout))
+
+    def write(self, data):
+        self.answer(lambda: self._write(data))
+
+    def _write(self, data):
+        self.run.stdin.write(data)
+        self.run.stdin.flush()
+
+    def next_row(self):
+        return self.answer(self.report.next_row)
+
+    def answer(self, call):
+        """What a call returns that speaks with the program. Where this has ended, it says why."""
+        try:
+            return call()
+        except (Unfinished, BrokenPipeError):
+            judge_end(self.run)
+            raise
+
+    def close(self):
+        if not self.run.stdout.closed:
+            self.run.stdin.close()
+            self.run.stdout.read()
+            judge_end(self.run)
 
 
 class NoCorrection(ValueError):
@@ -25,23 +61,26 @@ class NoCorrection(ValueError):
 
 
 class Matching:
-    """A model whose shots are decoded as they come, by one run of the program. `close` ends it, and so does `with`."""
+    """A model whose shots are decoded as they come, by one run of the program, or by one for each of two passes. `close` ends
+    them, and so does `with`."""
 
     def __init__(self, decoding):
         self._decoding, self._observables, self._scale = decoding, decoding.observables, decoding.settings.scale
-        words = ["decode", "--shots", "-", "--format", "b8", "--window", "1", "--graph"]
-        with tempfile.TemporaryDirectory() as folder:
-            graph = Path(folder) / "graph.json"
-            graph.write_text(decoding.graph_text)
-            self._run = start([decoding.settings.program, *words, graph], subprocess.PIPE)
-            # The first line of the report comes once the graph is read.
-            self._report = self._answer(lambda: Rows(self._run.stdout))
+        program, self._second = decoding.settings.program, None
+        with tempfile.TemporaryDirectory() as folder, contextlib.ExitStack() as started:
+            decoding.write_graphs(Path(folder))
+            self._first = Answering(program, Path(folder) / GRAPH, "b8")
+            started.callback(self._first.close)
+            if decoding.settings.correlated:
+                self._second = Answering(program, Path(folder) / SECOND_GRAPH, "json")
+            started.pop_all()
 
     @classmethod
-    def from_detector_error_model(cls, model, *, program=None, scale=DEFAULT_SCALE, skip_hyperedges=False):
-        """Of a detector error model, that is, any object of which `str` is one."""
-        settings = Settings(find_program(program), scale=scale, skip_hyperedges=skip_hyperedges)
-        return cls(Decoding(str(model).splitlines(), settings))
+    def from_detector_error_model(cls, model, *, program=None, scale=DEFAULT_SCALE, skip_hyperedges=False, correlated=False):
+        """Of a detector error model, that is, any object of which `str` is one. If `correlated` shots are decoded in two passes
+        (`busvroh.two_passes`)."""
+        settings = Settings(find_program(program), scale=scale, skip_hyperedges=skip_hyperedges, correlated=correlated)
+        return cls(decoding_of(str(model).splitlines(), settings))
 
     @property
     def num_detectors(self):
@@ -56,8 +95,8 @@ class Matching:
         """The observables that the lightest correction flips, a 0 or 1 for each.
 
         The syndrome has a 0 or 1 for each detector. If it is an array, so is what is returned, and else that is a list. The
-        weight is that of the graph, divided by the scale, so about the sum of ln((1 - p) / p) over the correction. Raises
-        `NoCorrection` where there is no correction.
+        weight is that of the graph, divided by the scale, so about the sum of ln((1 - p) / p) over the correction; in two passes
+        it is by the weights of the second. Raises `NoCorrection` where there is no correction.
         """
         row = self._row(syndrome)
         flips = unpacked(self._observables.flipped_by(row.edges), self.num_fault_ids)
@@ -90,11 +129,10 @@ class Matching:
         return predictions, array_of(weights.tobytes(), (count,), "float64") if is_array(shots) else list(weights)
 
     def close(self):
-        """Ends the run. After this nothing can be decoded."""
-        if not self._run.stdout.closed:
-            self._run.stdin.close()
-            self._run.stdout.read()
-            judge_end(self._run)
+        """Ends the runs. After this nothing can be decoded."""
+        self._first.close()
+        if self._second:
+            self._second.close()
 
     def __enter__(self):
         return self
@@ -143,18 +181,12 @@ class Matching:
         step = max(1, select.PIPE_BUF // size) * size
         for at in range(0, len(data), step):
             some = data[at : at + step]
-            self._answer(lambda: self._write(some))
-            for _ in range(0, len(some), size):
-                yield self._answer(self._report.next_row)
+            self._first.write(some)
+            for place in range(0, len(some), size):
+                row = self._first.next_row()
+                yield row if self._second is None or row is ODD else self._second_row(some[place : place + size], row)
 
-    def _write(self, data):
-        self._run.stdin.write(data)
-        self._run.stdin.flush()
-
-    def _answer(self, call):
-        """What a call returns that speaks with the program. Where this has ended, it says why."""
-        try:
-            return call()
-        except (Unfinished, BrokenPipeError):
-            judge_end(self._run)
-            raise
+    def _second_row(self, record, row):
+        """The row of the second pass, of a shot whose row in the first is given."""
+        self._second.write(self._decoding.second_shot(Part(1, record), 0, row))
+        return self._second.next_row()

@@ -6,7 +6,8 @@
 Vertex k of the graph is detector k, and the last vertex is the boundary. An error of two detectors is an edge between
 them, an error of one an edge to the boundary; parts that are split by `^` count as errors of their own. Errors with the
 same detectors and observables become one edge, in the place of the first of them: it stands for an odd number of them.
-Coordinates of detectors are read only on request: `busvroh.plans` makes plans by them.
+Coordinates of detectors are read only on request: `busvroh.plans` makes plans by them. So is which edges come together in
+an error, for `busvroh.correlations`.
 """
 
 import itertools
@@ -91,6 +92,14 @@ class Model:
             if rate > 0:
                 yield (low,) if low == high else (low, high), self._flips[key >> 2 * BITS], rate, line
 
+    def mechanisms(self):
+        """Each error by the numbers of its edges, rising, and its rate, if the model was read with them. Errors with the same
+        edges are one."""
+        numbers = itertools.count()
+        number_of = {key: next(numbers) for key, rate in self._block.rates.items() if rate > 0}
+        for keys, rate in self._block.mechanisms.items():
+            yield tuple(sorted(number_of[key] for key in keys if key in number_of)), rate
+
     def times(self):
         """The last coordinate of each detector, if the model was read with its coordinates."""
         times = self._block.times
@@ -145,7 +154,7 @@ class Block:
 
     def __init__(self, line=0, count=1):
         self.line, self.count = line, count
-        self.rates, self.lines = {}, array("I")
+        self.rates, self.lines, self.mechanisms = {}, array("I"), {}
         self.shift = self.detectors = self.skipped = 0
         self.times, self.step, self.last_line = {}, [], 0
 
@@ -178,6 +187,11 @@ class Block:
         if len(self.lines) > MOST_EDGES:
             raise error_at(line, f"more than {MOST_EDGES} edges, the limit of a graph")
 
+    def add_mechanism(self, keys, rate):
+        """Adds an error to those of the same edges."""
+        if rate > 0:
+            self.mechanisms[keys] = odd_rate(self.mechanisms.get(keys, 0), rate)
+
     def add_repeated(self, body):
         """Adds a block as often as it is repeated.
 
@@ -202,6 +216,8 @@ class Block:
         step = (self.shift + shift) * ONE_LATER
         for (key, rate), line in zip(body.rates.items(), body.lines):
             self.add(key + step, repeated_rate(rate, count), line)
+        for keys, rate in body.mechanisms.items():
+            self.add_mechanism(tuple(key + step for key in keys), repeated_rate(rate, count))
 
     def add_times(self, body):
         """Sets the times of a block as often as it is repeated. If no detector is shifted, a second time tells as much as
@@ -216,8 +232,8 @@ class Block:
 class Reader:
     """Reads the lines of a model one by one."""
 
-    def __init__(self, skip_hyperedges, coordinates):
-        self.skip_hyperedges, self.has_coordinates = skip_hyperedges, coordinates
+    def __init__(self, skip_hyperedges, coordinates, mechanisms):
+        self.skip_hyperedges, self.has_coordinates, self.has_mechanisms = skip_hyperedges, coordinates, mechanisms
         self.line, self.blocks, self.observables = 0, [Block()], 0
         self.flips, self.place_of_flips = [()], {(): 0}
         # What the texts of rates and of observables mean; a model has few different ones.
@@ -290,7 +306,7 @@ class Reader:
         self.blocks[-1].add_repeated(body)
 
     def take_usual_error(self, arguments, targets):
-        block, rate = self.blocks[-1], self.rate(arguments)
+        block, rate, keys = self.blocks[-1], self.rate(arguments), []
         for one, other, observables in USUAL_PART.findall(targets):
             low = block.shift + int(one)
             high = block.shift + int(other or one)
@@ -304,16 +320,26 @@ class Reader:
             place = self.place_of_text.get(observables)
             if place is None:
                 place = self.place_of_text[observables] = self.place(self.numbers("L", observables.split()))
-            block.add(place << 2 * BITS | low << BITS | high, rate, self.line)
+            keys.append(place << 2 * BITS | low << BITS | high)
+            block.add(keys[-1], rate, self.line)
+        if self.has_mechanisms:
+            self.take_mechanism(keys, rate)
 
     def take_error(self, arguments, targets):
-        rate, parts = self.rate(arguments), targets.split("^")
+        rate, parts, keys = self.rate(arguments), targets.split("^"), []
         for part in parts:
             if not part.strip() and len(parts) > 1:
                 raise self.error("a `^` has targets before it and after it")
-            self.take_part(part, rate)
+            keys += self.take_part(part, rate)
+        if self.has_mechanisms:
+            self.take_mechanism(keys, rate)
+
+    def take_mechanism(self, keys, rate):
+        if keys:
+            self.blocks[-1].add_mechanism(tuple(sorted(set(keys))), rate)
 
     def take_part(self, targets, rate):
+        """Adds a part to its edge, and returns the edge's key in a list, which is empty for a part without an edge."""
         tokens = targets.split()
         detectors = self.numbers("D", [token for token in tokens if token[0] != "L"])
         observables = self.numbers("L", [token for token in tokens if token[0] == "L"])
@@ -327,9 +353,12 @@ class Reader:
         if len(ends) > 2:
             block.skipped += 1
         elif ends:
-            block.add(place << 2 * BITS | ends[0] << BITS | ends[-1], rate, self.line)
+            key = place << 2 * BITS | ends[0] << BITS | ends[-1]
+            block.add(key, rate, self.line)
+            return [key]
         elif place:
             raise self.error(f"a part that flips observable {self.flips[place][0]} and no detector, which no decoder can see")
+        return []
 
     def place(self, observables):
         """The place of the set that is flipped by some observables, in the list of all such sets."""
@@ -395,14 +424,14 @@ def shortened(text):
     return text if len(text) <= 60 else text[:57] + "..."
 
 
-def read_model(lines, skip_hyperedges=False, coordinates=False):
-    """Reads a model, as the lines of an open file or of `str(model).splitlines()`, with the coordinates of its detectors on
-    request.
+def read_model(lines, skip_hyperedges=False, coordinates=False, mechanisms=False):
+    """Reads a model, as the lines of an open file or of `str(model).splitlines()`, with the coordinates of its detectors and
+    the edges of its errors on request.
 
     Parts with more than two detectors are an error, unless they are skipped and counted. So are a part that flips an
     observable and no detector, and whatever exceeds the limits of a graph. Raises `ModelError`.
     """
-    reader = Reader(skip_hyperedges, coordinates)
+    reader = Reader(skip_hyperedges, coordinates, mechanisms)
     for line in lines:
         reader.read(line)
     return reader.finish()

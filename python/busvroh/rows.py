@@ -7,6 +7,8 @@ HEAD = b"fusion-report 1\n"
 # The words of a row's edges, and its weight; both None where the shot has no correction.
 Row = namedtuple("Row", "edges weight")
 ODD = Row(None, None)
+# The same with the cuts: their values, each with the vertices.
+RowWithCuts = namedtuple("RowWithCuts", "edges weight cuts")
 
 
 class ReportError(ValueError):
@@ -15,6 +17,10 @@ class ReportError(ValueError):
 
 class Unfinished(ReportError):
     """A report that ends before its last line, so its run didn't come to its end."""
+
+
+class ReportTooLong(ReportError):
+    """A report of more bytes than may be read."""
 
 
 class Rows:
@@ -60,8 +66,16 @@ class Rows:
             if name != b"cut":
                 raise self.wrong(line)
             left -= int(value)
+            self.take_cut(line)
         if left < 0:
             raise self.wrong(line)
+        return self.row(edges, weight)
+
+    def take_cut(self, line):
+        """Takes a line of a cut."""
+
+    def row(self, edges, weight):
+        """The row whose lines have come."""
         return Row(edges, weight)
 
     def wrong(self, line):
@@ -69,3 +83,19 @@ class Rows:
 
     def __iter__(self):
         return iter(self.next_row, None)
+
+
+class RowsWithCuts(Rows):
+    """The rows of a report with their cuts."""
+
+    def __init__(self, report):
+        self.cuts = []
+        super().__init__(report)
+
+    def take_cut(self, line):
+        _, value, *vertices = line.split()
+        self.cuts.append((int(value), [*map(int, vertices)]))
+
+    def row(self, edges, weight):
+        cuts, self.cuts = self.cuts, []
+        return RowWithCuts(edges, weight, cuts)

@@ -8,8 +8,9 @@ Without sinter the classes are the same, but derive from nothing.
 import io
 
 from busvroh.bits import array_of, demand_packed, is_array
-from busvroh.decoding import Decoding, Settings
+from busvroh.decoding import Settings
 from busvroh.program import find_program
+from busvroh.two_passes import decoding_of
 
 try:
     import sinter
@@ -20,7 +21,8 @@ except ImportError:
 class SinterDecoder(getattr(sinter, "Decoder", object)):
     """Decodes by the program that is named, that of the variable `FUSION`, or the one of this repository.
 
-    The keywords are those of `Settings`. A shot without correction flips nothing, and `odd_shots` counts them.
+    The keywords are those of `Settings`, as `correlated=True` for two passes. A shot without correction flips nothing, and
+    `odd_shots` counts them.
     """
 
     def __init__(self, program=None, **settings):
@@ -29,14 +31,14 @@ class SinterDecoder(getattr(sinter, "Decoder", object)):
 
     def compile_decoder_for_dem(self, *, dem):
         """A decoder for a detector error model, that is, any object of which `str` is one."""
-        return CompiledSinterDecoder(Decoding(str(dem).splitlines(), self.settings))
+        return CompiledSinterDecoder(decoding_of(str(dem).splitlines(), self.settings))
 
     def decode_via_files(
         self, *, num_shots, num_dets, num_obs, dem_path, dets_b8_in_path, obs_predictions_b8_out_path, tmp_dir
     ):
         """Decodes a file of shots to a file of flips, a part of it at a time."""
         with open(dem_path, encoding="utf-8", errors="surrogateescape") as lines:
-            decoding = Decoding(lines, self.settings)
+            decoding = decoding_of(lines, self.settings)
         of_model = decoding.detectors, decoding.observables.count
         if of_model != (num_dets, num_obs):
             raise ValueError(f"a model of {of_model} detectors and observables, in place of {num_dets, num_obs}")
