@@ -6,7 +6,7 @@ use fb_crew::{Hands, OpenGate, Solved, Solver, Tools, decode_window, work_all};
 use fb_fuse::fuse;
 use fb_graph::{NoMemory, Row, Scope, Shot, Steps, components};
 use fb_half::{Half, Standing, Work};
-use fb_plan::{Job, Plan};
+use fb_plan::{Job, Join, Plan};
 use fb_resolve::resolve;
 use fb_search::search;
 use fb_unit::solve_unit;
@@ -75,6 +75,51 @@ pub fn keep_their_layers(alloc: Global) -> Result<(), Stopped> {
         (4, [5].as_slice()),
     ];
     Stopped::unless(is_row(&row, &[1, 2, 5], 14, &cuts), "a row of a unit solved from its last defect")
+}
+
+/// Whether the parts of both units, and of their fusion, list these defects.
+fn list_defects<'a, L: Ledger>(
+    alloc: Global,
+    job: &'a Job<'a>,
+    known: &[&[u32]; 3],
+    blank: Blank,
+) -> Result<bool, NoMemory> {
+    let mut steps = Steps::<L>::new(blank);
+    let begun = Work::begin(alloc, job, 0, 0)?;
+    let left = solve_unit(alloc, job, 0, 0, &mut steps)?;
+    let right = solve_unit(alloc, job, 0, 1, &mut steps)?;
+    let are_units = begun.defects() == known[0] && left.defects() == known[0] && right.defects() == known[1];
+    let whole = fuse(alloc, job, 2, left, right, &mut steps)?;
+    Ok(are_units && whole.defects() == known[2])
+}
+
+/// The units of a plan, as ranges of vertices, and the range that their fusion owns.
+type Ranges<'a> = ([&'a [(u64, u64)]; 2], &'a [(u64, u64)]);
+
+/// Parts list their own defects, in rising order: the right part's vertices lie above the left's, below them, or between.
+pub fn list_their_defects(alloc: Global) -> Result<(), Stopped> {
+    let line = Line::new(alloc, &[2, 4, 2, 6, 2, 4, 8, 2, 4], &[4])?;
+    let shot = [1, 3, 4, 6, 8];
+    let plans: [(Ranges<'_>, [&[u32]; 3]); 4] = [
+        (([&[(1, 4)], &[(5, 9)]], &[(4, 5)]), [&[1, 3], &[6, 8], &shot]),
+        (([&[(5, 9)], &[(1, 4)]], &[(4, 5)]), [&[6, 8], &[1, 3], &shot]),
+        (([&[(1, 2), (6, 7)], &[(3, 4), (8, 9)]], &[(2, 3), (4, 6), (7, 8)]), [&[1, 6], &[3, 8], &shot]),
+        (([&[(2, 3)], &[(5, 6), (7, 9)]], &[(1, 2), (3, 5), (6, 7)]), [&[], &[8], &shot]),
+    ];
+    for ((units, seam), known) in &plans {
+        let units = vec![in alloc; Vec::from_slice(alloc, units[0])?, Vec::from_slice(alloc, units[1])?]?;
+        let fusion = Join {
+            left: 0,
+            right: 1,
+            seam: Vec::from_slice(alloc, seam)?,
+        };
+        let plan = Plan::build(alloc, &line.graph, &units, &vec![in alloc; fusion]?)?;
+        let mut shots = Vec::new(alloc);
+        shots.push(line.shot(alloc, &shot)?)?;
+        let job = Job::new(&line.graph, &plan, shots);
+        Stopped::unless(list_defects::<Brand>(alloc, &job, known, Blank::new(1))?, "a part's defects")?;
+    }
+    Ok(())
 }
 
 /// The row of the defects at 1 and 3 with the seam at 2, or without a plan.

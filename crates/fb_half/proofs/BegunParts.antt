@@ -173,7 +173,7 @@ own_distinct j s n job less =
 pub own_real : (j : JobValue) (s n : ℕ) → All (λ v. (problem_at j.graph j.plan n no_shot).is_real v ≡ true) (own_of j s n)
 own_real j s n = kept_real (problem_at j.graph j.plan n no_shot).is_real (get_or j.shots s no_shot).defects
 
-own_in : (w : PartValue) (j : JobValue) (s n : ℕ) (own : List ℕ) → w.job ≡ j → w.slot ≡ s → w.node ≡ n → own ≡ own_of j s n → own ≡ own_defects w
+pub own_in : (w : PartValue) (j : JobValue) (s n : ℕ) (own : List ℕ) → w.job ≡ j → w.slot ≡ s → w.node ≡ n → own ≡ own_of j s n → own ≡ own_defects w
 own_in w j s n own job slot node is =
     is
     ∙ sym (ap (λ x. own_of x w.slot w.node) job ∙ (ap (λ x. own_of j x w.node) slot ∙ ap (λ x. own_of j s x) node))

@@ -14,3 +14,12 @@ both_with P done made given value is same has = subst P same (subst (λ r. OnOk 
 
 pub made_holds : {T E : Type 0} (P : T → Type 0) (done : Result T E) (made : T) → done ≡ Ok made → IfOk done P → P made
 made_holds P done made is has = subst (λ r. IfOk r P) is has
+
+-- what holds if a step is done follows from another such fact
+pub on_ok : {T E A B : Type 0} (r : Result T E) → (A → B) → OnOk r A → OnOk r B
+on_ok (Ok x) follows a = follows a
+on_ok (Err e) follows a = tt
+
+pub always_ok : {T E A : Type 0} (r : Result T E) → A → OnOk r A
+always_ok (Ok x) a = a
+always_ok (Err e) a = tt

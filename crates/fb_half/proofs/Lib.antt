@@ -6,6 +6,8 @@ pub mod BesideMatchings
 pub mod BesideNodes
 pub mod Changes
 pub mod DoneSteps
+pub mod RisingUnions
+pub mod OwnDefects
 pub mod FarEnds
 pub mod FlatPermutations
 pub mod FreedMatches

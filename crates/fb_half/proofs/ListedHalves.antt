@@ -22,6 +22,7 @@ use Rattle.fb_half.specs.declared.seams.Seams.{Seams}
 use Rattle.fb_half.specs.InternalSeams.{AreBesideListed, IsBeside, IsOpened, meets_seam}
 use Rattle.fb_half.specs.Matchings.{IsMatchOf, match_links}
 use Rattle.fb_half.specs.Merged.{is_alone, is_owned_by, renamed_match, renamed_second}
+use Rattle.fb_half.specs.Beginnings.{own_defects}
 use Rattle.fb_half.specs.Parts.{IsPart, PartValue, graph_in, problem_in}
 use Rattle.fb_half.specs.Seams.{AreListed, IsListed, far_end, names_under}
 use Rattle.fb_half.specs.Translations.{link_by}
@@ -37,14 +38,16 @@ use Rattle.fb_half.proofs.SeamedMatchings.{link_is, still_unreal, was_match}
 use Rattle.fb_links.proofs.MovedLinks.{Table}
 
 -- a part without matches
-pub scope_begun : (parts : Parts) → IsScopeOf parts.regions.scope (part_of parts) → parts.matching.matches ≡ [] → HasScope parts
-scope_begun parts is none = record {
+pub scope_begun : (parts : Parts) → IsScopeOf parts.regions.scope (part_of parts) → parts.matching.matches ≡ []
+    → parts.defects.items ≡ own_defects (part_of parts) → HasScope parts
+scope_begun parts is none own = record {
   graph = is.graph;
   plan = is.plan;
   node = is.node;
   listed =
       subst (AreListed (problem_in (part_of parts)).is_real parts.job.now.plan parts.seams parts.links) (sym none)
       (All-nil (IsListed (problem_in (part_of parts)).is_real parts.job.now.plan parts.seams parts.links));
+  defects = own;
 }
 
 alone_second : (o : Option ℕ) → is_alone o ≡ true → o ≡ None

@@ -86,12 +86,12 @@ never_falls xs rising =
     (λ k d less. omega (arith, rising k less, get_or_default xs k d 0 (omega (arith, less)), get_or_default xs (k + 1) d 0 less))
 
 -- what a list has before a place, and from there on
-front : (P : ℕ → Type 0) (xs : List ℕ) (i : ℕ) → AllWithin P xs 0 i → All P (take i xs)
+pub front : (P : ℕ → Type 0) (xs : List ℕ) (i : ℕ) → AllWithin P xs 0 i → All P (take i xs)
 front P xs i all k d less =
     let below : k < i = omega (arith, less, length-take i xs) in
     subst P (sym (get_or-take i xs k d below)) (all k d (omega arith) below)
 
-back : (P : ℕ → Type 0) (xs : List ℕ) (i : ℕ) → AllWithin P xs i (length xs) → All P (drop i xs)
+pub back : (P : ℕ → Type 0) (xs : List ℕ) (i : ℕ) → AllWithin P xs i (length xs) → All P (drop i xs)
 back P xs i all k d less = subst P (sym (get_or-drop i xs k d)) (all (i + k) d (omega arith) (omega (arith, less, length-drop i xs)))
 
 -- the place of a reach's first vertex, and behind it that of its end, cut what is within it out of a list

@@ -4,6 +4,7 @@ pub mod InternalBeginnings
 pub mod InternalMerging
 pub mod InternalSeams
 pub mod InternalStandings
+pub mod InternalUnions
 pub mod Matchings
 pub mod Merged
 pub mod Parts

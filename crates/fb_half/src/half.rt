@@ -3,6 +3,7 @@ ghost use Rattle.fb_graph.specs.Certificate.{IsPacking};
 ghost use Rattle.fb_graph.specs.Laws.{IsSolved, odd_edges};
 ghost use Rattle.fb_laws.specs.OpenedLinks.{opened_links};
 ghost use Rattle.fb_laws.specs.Works.{positive_cuts};
+ghost use Rattle.fb_half.specs.Beginnings.{own_defects};
 ghost use Rattle.fb_half.specs.Matchings.{match_links};
 ghost use Rattle.fb_half.specs.Parts.{IsPart, problem_in, state_of};
 ghost use Rattle.fb_half.specs.Values.{HasScope, IsScopeOf, part_of};
@@ -123,6 +124,13 @@ impl<'a> Half<'a> {
         ensures { result.now ≡ self.now.matching }
     {
         &self.parts.matching
+    }
+
+    /// The shot's defects at the part's real vertices, rising.
+    pub fn defects(&self) -> &[u32]
+        ensures { result.now ≡ own_defects self.now }
+    {
+        &self.parts.defects
     }
 
     /// The numbers of the matched links.

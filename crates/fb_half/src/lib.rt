@@ -14,6 +14,7 @@ mod reach;
 pub mod seams;
 pub mod spare;
 mod start;
+mod unions;
 pub mod work;
 
 pub use half::Half;

@@ -20,10 +20,12 @@ ghost use Rattle.fb_half.specs.InternalMerging.{joined_part};
 ghost use Rattle.fb_half.specs.InternalSeams.{AddsSingles, AreBesideListed, IsFreed, IsOpened, meets_seam, met_nodes};
 ghost use Rattle.fb_half.specs.InternalStandings.{has_name, no_match};
 ghost use Rattle.fb_half.specs.Matchings.{listed_names, match_links, matched_names};
-ghost use Rattle.fb_half.specs.Merged.{IsPlanned, is_owned_by, leads_to_seam, renamed_match};
-ghost use Rattle.fb_half.specs.Seams.{names_under};
+ghost use Rattle.fb_half.specs.InternalUnions.{IsRisingUnion};
+ghost use Rattle.fb_half.specs.Merged.{IsPlanned, is_owned_by, leads_to_seam, renamed_match, seam_defects};
+ghost use Rattle.fb_half.specs.Parts.{problem_in};
+ghost use Rattle.fb_half.specs.Seams.{AreListed, names_under};
 ghost use Rattle.fb_half.specs.Translations.{link_by};
-ghost use Rattle.fb_half.specs.Values.{HasScope, IsScopeOf, part_of};
+ghost use Rattle.fb_half.specs.Values.{IsScopeOf, part_of};
 
 use crate::both::both;
 use crate::matches::{Match, Standing};
@@ -33,6 +35,7 @@ use crate::reach::within;
 use crate::seams::{Seams, far_owner};
 use crate::spare::EmptyTables;
 use crate::start::add_leaf;
+use crate::unions::add_rising;
 use fb_blossoms::Blossoms;
 use fb_graph::{NoMemory, NumberList};
 use fb_links::names::{Names, names_of};
@@ -41,14 +44,15 @@ use fb_plan::{NodeScope, Plan};
 use fb_regions::{Regions, SpareRegions};
 use std::alloc::Global;
 
-/// The parts of two children as one, whose matching is still the left part's alone; with the old and new numbers of what was
-/// the right part's, that part's matching, and the room that is left of its dual state and its tables.
+/// The parts of two children as one, whose matching and defects are still the left part's alone; with the old and new numbers
+/// of what was the right part's, that part's matching and defects, and the room that is left of its dual state and its tables.
 #[derive(Drop)]
 pub(crate) struct MergedParts<'a> {
     pub(crate) parts: Parts<'a>,
     link_names: Vec<(LinkId, LinkId)>,
     names: Vec<(NodeId, NodeId)>,
     pub(crate) others: Matching,
+    other_defects: Vec<u32>,
     pub(crate) room: SpareRegions,
     pub(crate) emptied: EmptyTables,
 }
@@ -109,6 +113,8 @@ pub(crate) fn merged_parts<'a>(
     ensures regions { IfOk result (λ m. m.parts.regions ≡ record { scope = scope.now; nodes = left.entry.regions.nodes ++ renamed_nodes (name_by m.names.items) right.entry.regions.nodes }) }
     ensures matching { IfOk result (λ m. m.parts.matching ≡ left.entry.matching) }
     ensures others { IfOk result (λ m. m.others ≡ right.entry.matching) }
+    ensures defects { IfOk result (λ m. m.parts.defects.items ≡ left.entry.defects.items) }
+    ensures other_defects { IfOk result (λ m. m.other_defects.items ≡ right.entry.defects.items) }
     ensures left_seams { IfOk result (λ m. (o x : ℕ) → is_in (names_under left.entry.seams o) x ≡ true → is_in (names_under m.parts.seams o) x ≡ true) }
     ensures right_seams { IfOk result (λ m. (o x : ℕ) → is_in (names_under right.entry.seams o) x ≡ true → is_in (names_under m.parts.seams o) (name_by m.names.items x) ≡ true) }
     ensures job { IfOk result (λ m. m.parts.job.now ≡ left.entry.job.now) }
@@ -125,14 +131,21 @@ pub(crate) fn merged_parts<'a>(
         ),
         (
             (left.regions, right.regions),
-            (left.matching, right.matching, left.seams, right.seams),
+            (
+                left.matching,
+                right.matching,
+                left.seams,
+                right.seams,
+                left.defects,
+                right.defects,
+            ),
         ),
     )?;
     let ((regions, room), (tables, others)) = both(
         Regions::merged_with_spare(alloc, regions.0, regions.1, &tables.names, scope),
         (tables, others),
     )?;
-    let (mine, theirs, my_seams, their_seams) = others;
+    let (mine, theirs, my_seams, their_seams, defects, other_defects) = others;
     let (seams, (tables, regions, room, mine, theirs)) = both(
         Seams::merged(alloc, my_seams, their_seams, &tables.names),
         (tables, regions, room, mine, theirs),
@@ -144,6 +157,7 @@ pub(crate) fn merged_parts<'a>(
             blossoms: tables.blossoms,
             matching: mine,
             seams,
+            defects,
             job: left.job,
             slot: left.slot,
             node: scope.node,
@@ -151,6 +165,7 @@ pub(crate) fn merged_parts<'a>(
         link_names: tables.link_names,
         names: tables.names,
         others: theirs,
+        other_defects,
         room,
         emptied: tables.emptied,
     })
@@ -365,8 +380,11 @@ fn add_leaves(
 fn open_seam(alloc: Global, parts: &mut Parts<'_>) -> Result<(), NoMemory>
     requires scope { IsScopeOf parts.old.regions.scope (part_of parts.old) }
     requires beside { AreBesideListed parts.old.seams (part_of parts.old) }
+    requires defects { IsStrictlyIncreasing parts.old.defects.items }
     ensures opened { OnOk result (IsOpened (drop (length (parts.old.matching.unmatched ++ met_nodes (part_of parts.old))) parts.new.matching.unmatched) (part_of parts.old) (part_of parts.new)) }
-    ensures scope { OnOk result (HasScope parts.new) }
+    ensures scope { OnOk result (IsScopeOf parts.new.regions.scope (part_of parts.new)) }
+    ensures listed { OnOk result (AreListed (problem_in (part_of parts.new)).is_real parts.new.job.now.plan parts.new.seams parts.new.links parts.new.matching.matches) }
+    ensures defects { OnOk result (IsRisingUnion parts.old.defects.items (seam_defects parts.old.job.now parts.old.slot parts.old.node) parts.new.defects.items) }
 {
     let Parts {
         regions,
@@ -374,6 +392,7 @@ fn open_seam(alloc: Global, parts: &mut Parts<'_>) -> Result<(), NoMemory>
         blossoms,
         matching,
         seams,
+        defects,
         job,
         slot,
         node,
@@ -386,6 +405,7 @@ fn open_seam(alloc: Global, parts: &mut Parts<'_>) -> Result<(), NoMemory>
     let seam = Seam { plan, node: *node };
     free_nodes(alloc, matching, links, &listed, &seam)?;
     let own = seam_defects(alloc, plan, *node, job.shots()[*slot as usize].as_slice())?;
+    add_rising(alloc, defects, &own)?;
     add_leaves(alloc, regions, blossoms, matching, &own)
 }
 
@@ -394,16 +414,22 @@ pub(crate) fn complete(alloc: Global, merged: &mut MergedParts<'_>) -> Result<()
     requires scope { IsScopeOf merged.old.parts.regions.scope (part_of merged.old.parts) }
     requires distinct { AreDistinct (listed_names merged.old.parts.matching ++ matched_names (map (renamed_match (name_by merged.old.link_names.items) (name_by merged.old.names.items)) merged.old.others.matches)) }
     requires beside { AreBesideListed merged.old.parts.seams (joined_part merged.old) }
+    requires defects { IsStrictlyIncreasing merged.old.parts.defects.items }
+    requires other_defects { IsStrictlyIncreasing merged.old.other_defects.items }
     ensures opened { OnOk result (IsOpened (drop (length ((joined_part merged.old).matching.unmatched ++ met_nodes (joined_part merged.old))) merged.new.parts.matching.unmatched) (joined_part merged.old) (part_of merged.new.parts)) }
-    ensures scope { OnOk result (HasScope merged.new.parts) }
+    ensures scope { OnOk result (IsScopeOf merged.new.parts.regions.scope (part_of merged.new.parts)) }
+    ensures listed { OnOk result (AreListed (problem_in (part_of merged.new.parts)).is_real merged.new.parts.job.now.plan merged.new.parts.seams merged.new.parts.links merged.new.parts.matching.matches) }
+    ensures defects { OnOk result (IsRisingUnion (merged.old.parts.defects.items ++ merged.old.other_defects.items) (seam_defects merged.old.parts.job.now merged.old.parts.slot merged.old.parts.node) merged.new.parts.defects.items) }
 {
     let MergedParts {
         parts,
         link_names,
         names,
         others,
+        other_defects,
         ..
     } = merged;
+    add_rising(alloc, &mut parts.defects, other_defects)?;
     take_matches(
         alloc,
         &mut parts.matching,

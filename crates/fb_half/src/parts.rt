@@ -17,6 +17,8 @@ pub struct Parts<'a> {
     pub blossoms: Blossoms,
     pub matching: Matching,
     pub seams: Seams,
+    /// The shot's defects at the part's real vertices, rising.
+    pub(crate) defects: Vec<u32>,
     pub(crate) job: &'a Job<'a>,
     pub(crate) slot: u32,
     pub(crate) node: u32,

@@ -1,7 +1,7 @@
 ghost use Rattle.std.specs.Prelude.{◌≡◌, ◌<◌, [], length, IfOk, Some};
 ghost use Rattle.fb_plan.specs.Plans.{children_of};
 ghost use Rattle.fb_half.specs.Merged.{IsMerged};
-ghost use Rattle.fb_half.specs.Beginnings.{IsBegun};
+ghost use Rattle.fb_half.specs.Beginnings.{IsBegun, own_defects};
 ghost use Rattle.fb_half.specs.Matchings.{match_links};
 ghost use Rattle.fb_half.specs.Parts.{IsPart};
 ghost use Rattle.fb_half.specs.Values.{HasScope, IsScopeOf, part_of};
@@ -132,6 +132,13 @@ impl<'a> Work<'a> {
         self.parts.matching.unmatched()
     }
 
+    /// The shot's defects at the part's real vertices, rising.
+    pub fn defects(&self) -> &[u32]
+        ensures { result.now ≡ own_defects self.now }
+    {
+        &self.parts.defects
+    }
+
     /// The numbers of the matched links.
     pub fn matches(&self) -> &[LinkId]
         ensures { result.now ≡ match_links self.now.matching.matches }
@@ -173,7 +180,12 @@ impl<'a> Work<'a> {
         let mut parts = empty_parts(alloc, job, slot, node, spare)?;
         let parts = start(alloc, &mut parts, &own).and(Ok(parts))?;
         state_begins();
-        Ok(Work { parts })
+        Ok(Work {
+            parts: Parts {
+                defects: own,
+                ..parts
+            },
+        })
     }
 
     /// The part of a fusion, made of its children's solved parts (Wu and Zhong 2023): all their cuts, and all their links

@@ -1,5 +1,5 @@
 -- Edges that are passed over since their bounds show that they bear a step, and looks that set bounds.
-use Rattle.std.proofs.Common.{ℕ, ◌≡◌, ◌-◌, ◌*◌, ◌/◌, ◌≤◌, ◌<◌, ◌==◌, ◌&&◌, ◌⊎◌, inl, inr, Bool, true, false, not, List, length, get_or, set, take, take_all, All, refl, sym, ap, ◌∙◌, subst, true≢false, arith}
+use Rattle.std.proofs.Common.{ℕ, ◌≡◌, ◌-◌, ◌*◌, ◌/◌, ◌≤◌, ◌<◌, ◌==◌, ◌&&◌, ◌⊎◌, inl, inr, Bool, true, false, not, List, [], length, get_or, set, take, take_all, All, refl, sym, ap, ◌∙◌, subst, true≢false, arith}
 use Rattle.std.specs.List.{swap_remove}
 use Rattle.std.proofs.Math.Bool.{and-false, and-true}
 use Rattle.std.proofs.lemmas.Bool.{and_from, and_parts, eq-eqb, false≢true, false_from_ne_true, cases_eq, cases_lt, eqb-true, leb-true, not_from_false}
@@ -25,7 +25,7 @@ use Rattle.fb_obstacles.specs.Obstacles.{BearsStep, Obstructs, residue_of, roles
 use Rattle.fb_obstacles.specs.Watched.{Watched, AreBounded}
 use Rattle.fb_obstacles.specs.InnerEdges.{LeavesInner}
 use Rattle.fb_obstacles.specs.InternalWatch.{IsNext, Reorders}
-use Rattle.fb_obstacles.specs.InternalLooks.{BearBeside, BearsShrinking, HasScanned, IsSeen, Limits, both_looks, bound_by, edge_look, fits_within}
+use Rattle.fb_obstacles.specs.InternalLooks.{BearBeside, BearsShrinking, HasScanned, IsSeen, Limits, LimitsBoth, LimitsMinus, both_looks, bound_by, edge_look, fits_within}
 use Rattle.fb_obstacles.proofs.EdgeLooks.{look_bound}
 use Rattle.fb_obstacles.proofs.EdgeScans.{edge_looked}
 use Rattle.fb_obstacles.proofs.LeftEdges.{outer_edge}
@@ -329,3 +329,21 @@ module _ (p : Problem) (role_of : ℕ → Role) (nodes : List Node) (names : Lis
           λ j h. limits.2 j (h.0, λ k within out. is_in-All (λ e. Bears e j) old.edges h.1 k within),
         )
         by (Blocked o) is limits = limits
+
+-- an obstacle at a minus node, after a scan of the edges alone
+pub scanned_before : (p : Problem) (role_of : ℕ → Role) (nodes : List Node) (names : List ℕ) (old new : Watched) (l minus both : Look)
+    (o : Obstacle) → minus ≡ Blocked o → LimitsMinus p role_of nodes names minus → HasScanned p role_of nodes [] old new l
+    → both ≡ both_looks l minus → HasScanned p role_of nodes names old new both
+scanned_before p role_of nodes names old new l minus both o is blocks scanned joined = record {
+  limits = subst (LimitsBoth p (roles_by role_of) nodes names old.edges) (sym joined)
+      (subst (λ m. LimitsBoth p (roles_by role_of) nodes names old.edges (both_looks l m)) (sym is)
+      (by l scanned.limits (subst (LimitsMinus p role_of nodes names) is blocks)));
+  watched = scanned.watched;
+  bounded = scanned.bounded;
+}
+  where
+    by : (m : Look) → LimitsBoth p (roles_by role_of) nodes [] old.edges m → Obstructs p (roles_by role_of) nodes o
+        → LimitsBoth p (roles_by role_of) nodes names old.edges (both_looks m (Blocked o))
+    by Clear limits blocked = blocked
+    by (Within b) limits blocked = blocked
+    by (Blocked e) limits blocked = limits

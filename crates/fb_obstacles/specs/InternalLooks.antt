@@ -149,6 +149,16 @@ pub record HasScanned (p : Problem) (role_of : ℕ → Role) (nodes : List Node)
   pub watched : LeavesInner p nodes old new
   pub bounded : AreBounded (slack_at p (roles_by role_of) nodes) new
 
+-- the look says which lengths minus nodes of these names allow, or names an obstacle that is there
+abbrev pub LimitsMinus : Problem → (ℕ → Role) → List Node → List ℕ → Look → Type 0
+LimitsMinus p role_of nodes names look =
+    Limits (λ j. All (BearsShrinking nodes j) names) (Obstructs p (roles_by role_of) nodes) look
+
+-- what a scan of the watched edges tells after a look at minus nodes, whichever these are
+abbrev pub HasScannedAfter : Problem → (ℕ → Role) → List Node → Look → Watched → Watched → Look → Type 0
+HasScannedAfter p role_of nodes before old new look =
+    (names : List ℕ) → LimitsMinus p role_of nodes names before → HasScanned p role_of nodes names old new look
+
 -- the edges in a list bear steps of this length, but for those in another list
 abbrev pub BearBeside : Problem → Roles → List Node → (left ks : List ℕ) → ℕ → Type 0
 BearBeside p roles nodes left ks j =

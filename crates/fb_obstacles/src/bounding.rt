@@ -1,8 +1,8 @@
-ghost use Rattle.std.specs.Prelude.{ℕ, ◌≡◌, ◌+◌, ◌<◌, ◌≤◌, true, length, get_or, All, IfNone, IfSome};
+ghost use Rattle.std.specs.Prelude.{ℕ, ◌≡◌, ◌+◌, ◌<◌, ◌≤◌, true, List, length, get_or, All, IfNone, IfSome};
 ghost use Rattle.fb_graph.specs.Covers.{AreRoles};
 ghost use Rattle.fb_obstacles.specs.Obstacles.{HavePlusParity, ListsMinus, slack_at, roles_by};
 ghost use Rattle.fb_obstacles.specs.Watched.{AreBounded};
-ghost use Rattle.fb_obstacles.specs.InternalLooks.{HasScanned, IsSeen, both_looks, fits_within};
+ghost use Rattle.fb_obstacles.specs.InternalLooks.{HasScanned, HasScannedAfter, IsSeen, LimitsMinus, both_looks, fits_within};
 ghost use Rattle.fb_obstacles.specs.InternalWatch.{IsNext};
 
 use crate::ends::keeps_dual;
@@ -10,7 +10,7 @@ use crate::looking::{Look, look_between};
 use crate::shrinking::{MinusNodes, look_at_minus};
 use crate::watching::Watch;
 use fb_graph::{Scope, Steps};
-use fb_regions::Regions;
+use fb_regions::{Regions, Roles};
 use std::sync::ledger::Ledger;
 
 /// The place of the next edge to be looked at before this place: the last one, if it doesn't wait in the queue, or else
@@ -97,8 +97,9 @@ fn keeps_seen<S: Scope, R: MinusNodes>(watch: &Watch, scope: &S, regions: &Regio
     scope.limits();
 }
 
-/// The look, whose edges are not put into the queue again. Goes from the last edge to the first of those that don't wait in the
-/// queue: the last ones have no bound yet, and mostly limit the step.
+/// The look, whose edges are not put into the queue again. If a minus node is an obstacle, a tight edge comes before it, since
+/// an edge may end the search, and a blossom that is opened, or a layer that is taken off, for a node that soon grows again is
+/// work for nothing.
 fn scan_by_bounds<S: Scope, R: MinusNodes, L: Ledger>(
     watch: &mut Watch,
     scope: &S,
@@ -113,12 +114,37 @@ fn scan_by_bounds<S: Scope, R: MinusNodes, L: Ledger>(
     ensures scanned { HasScanned (S.problem scope.now) (R.role_of roles.now) regions.now.nodes (R.minus_names roles.now) watch.old watch.new result.look }
     ensures looks { (looks.old ≤ looks.new) × (looks.new ≤ looks.old + length watch.old.edges) }
 {
+    let minus = look_at_minus(regions, roles);
+    let Look::Blocked(_) = minus else {
+        return scan_edges(watch, scope, regions, roles, minus, looks);
+    };
+    let Scan { look, place } = scan_edges(watch, scope, regions, roles, Look::Clear, looks);
+    Scan {
+        look: look.and(minus),
+        place,
+    }
+}
+
+/// A look at the watched edges after one at minus nodes, up to the first edge that is an obstacle. Goes from the last edge to
+/// the first of those that don't wait in the queue: the last ones have no bound yet, and mostly limit the step.
+fn scan_edges<S: Scope, R: Roles, L: Ledger>(
+    watch: &mut Watch,
+    scope: &S,
+    regions: &Regions<S>,
+    roles: &R,
+    minus: Look,
+    looks: &mut Steps<L>,
+) -> Scan
+    requires same { regions.now.scope ≡ scope.now }
+    requires seen { IsSeen (S.problem scope.now) (R.role_of roles.now) regions.now.nodes watch.old.edges }
+    requires bounded { AreBounded (slack_at (S.problem scope.now) (roles_by (R.role_of roles.now)) regions.now.nodes) watch.old }
+    requires minus { (names : List ℕ) × LimitsMinus (S.problem scope.now) (R.role_of roles.now) regions.now.nodes names minus }
+    ensures scanned { HasScannedAfter (S.problem scope.now) (R.role_of roles.now) regions.now.nodes minus watch.old watch.new result.look }
+    ensures looks { (looks.old ≤ looks.new) × (looks.new ≤ looks.old + length watch.old.edges) }
+{
     watch.keeps();
     let mut place = watch.len();
-    let mut least = look_at_minus(regions, roles);
-    if let Look::Blocked(_) = least {
-        return Scan { look: least, place };
-    }
+    let mut least = minus;
     while let Some(at) = next_place(watch, place, least) {
         watch.keeps();
         place = at;

@@ -1,71 +1,25 @@
-use Rattle.std.proofs.Common.{◌≡◌, ◌∙◌, length, get_or, refl, sym, ap, subst, true, arith}
-use Rattle.fb_obstacles.specs.InternalLooks.{HasScanned, fits_within}
-use Rattle.fb_obstacles.proofs.BoundedScans.{edge_within, scanned_all, scanned_blocked, scanned_left, scanned_more, scanned_none, scanned_passed}
+use Rattle.std.proofs.Common.{[]}
+use Rattle.std.proofs.lemmas.List.Elements.{All-nil}
+use Rattle.fb_obstacles.specs.InternalLooks.{BearsShrinking}
+use Rattle.fb_obstacles.proofs.BoundedScans.{scanned_before}
 use Rattle.fb_obstacles.proofs.bounding.scan_by_bounds.Goals as goal
 
-pub returns-in-Blocked-clause-scanned : goal.returns-in-Blocked-clause-scanned
-returns-in-Blocked-clause-scanned g c =
-    scanned_blocked _ _ _ _ _ c.requires.seen _ (length c.args.watch.now.edges) _ c.in-Blocked.field-0 c.in-Blocked.is
-    (scanned_none _ _ _ _ _ c.requires.seen (length c.args.watch.now.edges) _ refl c.keeps.ensures.queued c.requires.bounded
-    (c.look_at_minus-least.ensures (g.S.Scope.problem c.args.scope.now)))
+pub scan_edges-requires-clause-minus : goal.scan_edges-requires-clause-minus
+scan_edges-requires-clause-minus g c =
+    (g.R.MinusNodes.minus_names c.args.roles.now, c.look_at_minus-minus.ensures (g.S.Scope.problem c.args.scope.now))
 
-pub loop-at-init : goal.loop-at-init
-loop-at-init g c = record {
-  scanned = scanned_none _ _ _ _ _ c.requires.seen c.len-place.result _ c.len-place.ensures c.keeps.ensures.queued
-      c.requires.bounded (c.look_at_minus-least.ensures (g.S.Scope.problem c.args.scope.now));
-  never_falls = omega arith;
-  counted = omega (arith, c.len-place.ensures);
-}
+pub returns-in_default-clause-scanned : goal.returns-in_default-clause-scanned
+returns-in_default-clause-scanned g c =
+    c.scan_edges.ensures.scanned (g.R.MinusNodes.minus_names c.args.roles.now)
+    (c.look_at_minus-minus.ensures (g.S.Scope.problem c.args.scope.now))
 
-pub loop-at-preserved-then-fits_within : goal.loop-at-preserved-then-fits_within
-loop-at-preserved-then-fits_within g c = record {
-  scanned = scanned_passed _ _ _ _ _ c.requires.seen _ _ _ _ _ _ c.loop-at.invariant.scanned c.in-Some.ensures.next refl
-      c.bound_at.result c.bound_at.ensures (sym c.fits_within.ensures ∙ c.if-fits_within.true);
-  never_falls = omega (arith, c.loop-at.invariant.never_falls);
-  counted = omega (arith, c.loop-at.invariant.counted, c.in-Some.ensures.next.before);
-}
-
-pub look_between-requires-clause-below : goal.look_between-requires-clause-below
-look_between-requires-clause-below g c =
-    edge_within _ _ _ _ _ c.requires.seen _ _ _ _ _ _ c.loop-at.invariant.scanned c.in-Some.ensures.next
-    (ap (λ xs. get_or xs c.in-Some.at 0) c.edges.ensures)
-
-pub loop-at-preserved-in_default-look_between : goal.loop-at-preserved-in_default-look_between
-loop-at-preserved-in_default-look_between g c = record {
-  scanned = scanned_left _ _ _ _ _ c.requires.seen _ _ _ _ _ _ c.loop-at.invariant.scanned c.in-Some.ensures.next
-      (ap (λ xs. get_or xs c.in-Some.at 0) c.edges.ensures) c.take_out.new.self c.keeps-in-Some.ensures.distinct
-      c.keeps-in-Some.ensures.bounds c.in_default-look_between.ensures.look c.take_out.ensures;
-  never_falls = omega (arith, c.loop-at.invariant.never_falls);
-  counted = omega (arith, c.loop-at.invariant.counted, c.in-Some.ensures.next.before);
-}
-
-pub returns-in-Blocked-least-clause-scanned : goal.returns-in-Blocked-least-clause-scanned
-returns-in-Blocked-least-clause-scanned g c =
-    scanned_blocked _ _ _ _ _ c.requires.seen c.with_look-least.new.watch c.in-Some.at c.with_look-least.result
-    c.in-Blocked-least.field-0 c.in-Blocked-least.is
-    (scanned_more _ _ _ _ _ c.requires.seen _ _ _ _ _ _ c.loop-at.invariant.scanned c.in-Some.ensures.next
-    (ap (λ xs. get_or xs c.in-Some.at 0) c.edges.ensures) c.with_look-least.new.watch
-    (get_or c.set_bound.new.self.bounds c.in-Some.at 0) c.bound.result c.in-Some-look_between.look c.with_look-least.result
-    c.in-Some-look_between.ensures.look c.bound.ensures c.set_bound.ensures.most
-    (c.with_look-least.ensures.same ∙ c.set_bound.ensures.rest) c.with_look-least.ensures.both)
-
-pub loop-at-preserved : goal.loop-at-preserved
-loop-at-preserved g c = record {
-  scanned = scanned_more _ _ _ _ _ c.requires.seen _ _ _ _ _ _ c.loop-at.invariant.scanned c.in-Some.ensures.next
-      (ap (λ xs. get_or xs c.in-Some.at 0) c.edges.ensures) c.with_look-least.new.watch
-      (get_or c.set_bound.new.self.bounds c.in-Some.at 0) c.bound.result c.in-Some-look_between.look c.with_look-least.result
-      c.in-Some-look_between.ensures.look c.bound.ensures c.set_bound.ensures.most
-      (c.with_look-least.ensures.same ∙ c.set_bound.ensures.rest) c.with_look-least.ensures.both;
-  never_falls = omega (arith, c.loop-at.invariant.never_falls);
-  counted = omega (arith, c.loop-at.invariant.counted, c.in-Some.ensures.next.before);
-}
+pub scan_edges-look-requires-clause-minus : goal.scan_edges-look-requires-clause-minus
+scan_edges-look-requires-clause-minus g c = ([], λ k. All-nil (BearsShrinking c.args.regions.now.nodes k))
 
 pub returns-clause-scanned : goal.returns-clause-scanned
 returns-clause-scanned g c =
-    subst (λ w. HasScanned (g.S.Scope.problem c.args.scope.now) (g.R.Roles.role_of c.args.roles.now) c.args.regions.now.nodes
-    (g.R.MinusNodes.minus_names c.args.roles.now) c.args.watch.now w c.loop-at.least)
-    (sym c.in_default-next_place.ensures.unchanged)
-    (scanned_all _ _ _ _ _ c.requires.seen _ _ _ c.loop-at.invariant.scanned
-    (λ i less.
-    subst (λ w. fits_within c.loop-at.least (get_or w.bounds i 0) ≡ true) c.in_default-next_place.ensures.unchanged
-    (c.in_default-next_place.ensures.rest i less)))
+    scanned_before (g.S.Scope.problem c.args.scope.now) (g.R.Roles.role_of c.args.roles.now) c.args.regions.now.nodes
+    (g.R.MinusNodes.minus_names c.args.roles.now) c.args.watch.now c.scan_edges-look.new.watch c.scan_edges-look.result.look
+    c.look_at_minus-minus.result c.and.result c.in-Blocked.field-0 c.in-Blocked.is
+    (c.look_at_minus-minus.ensures (g.S.Scope.problem c.args.scope.now))
+    (c.scan_edges-look.ensures.scanned [] (λ k. All-nil (BearsShrinking c.args.regions.now.nodes k))) c.and.ensures

@@ -34,7 +34,7 @@ returns c w met =
     let node = ap (λ s. s.node) c.scope-scope.ensures ∙ scope.node in
     let limits : IsWithinLimits (problem_in part) = kept_limits part _ _ _ graph plan node c.limits.ensures in
     rw c.in_ok-attach.ensures.ok (record {
-      scope = record { graph = scope.graph; plan = scope.plan; node = scope.node; listed = scope.listed };
+      scope = record { graph = scope.graph; plan = scope.plan; node = scope.node; listed = scope.listed; defects = scope.defects };
       keeps = attached_searching w c.args.met _ met c.args.mate c.requires.couple limits c.watch_node.new.watch
           c.keeps.ensures.within
           (kept_watches part _ c.scope-scope.result.now.plan.now c.scope-scope.result.now.node _ c.args.pieces.now.watch

@@ -21,6 +21,7 @@ returns-clause-scope c =
       graph = scope.graph;
       plan = scope.plan;
       node = scope.node;
+      defects = scope.defects;
       listed = listed_made w c.args.pieces.now.parts.seams c.link_between.new.links c.in_ok-link.link made.walk c.take_match-taken.new.self.matches
           c.requires.search made.adds (λ m a. taken_among w.part.matching.matches c.take_match-taken.new.self.matches c.take_match-taken.result m taken a)
           scope.listed;

@@ -34,6 +34,7 @@ returns c w met =
         graph = scope.graph;
         plan = scope.plan;
         node = scope.node;
+        defects = scope.defects;
         listed =
             released_listed w c.args.met _ met c.requires.boundary c.args.pieces.now.parts.seams scope.listed c.take_unmatched.new.self
             c.take_unmatched.ensures.matches c.forget.new.self c.end_tree.new.links c.end_tree.new.matching c.forget.ensures

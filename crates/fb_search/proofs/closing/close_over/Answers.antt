@@ -23,6 +23,7 @@ join_cycle-requires c =
         graph = scope.graph;
         plan = scope.plan;
         node = scope.node;
+        defects = scope.defects;
         listed =
             listed_made w c.args.pieces.now.parts.seams c.link_between.new.links c.in_ok-closing.closing made.walk w.part.matching.matches c.requires.search
             made.adds (λ m a. a) scope.listed;

@@ -90,6 +90,7 @@ returns c =
         graph = scope.graph;
         plan = scope.plan;
         node = scope.node;
+        defects = scope.defects;
         listed =
             subst (AreListed (problem_of w).is_real w.part.job.plan c.args.pieces.now.parts.seams w.part.links) (sym replaced.matches) scope.listed;
       };

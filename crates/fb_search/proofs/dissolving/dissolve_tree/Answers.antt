@@ -33,6 +33,7 @@ returns c =
         graph = scope.graph;
         plan = scope.plan;
         node = scope.node;
+        defects = scope.defects;
         listed =
             left_listed w c.args.pieces.now.parts.seams c.forget_all.new.links c.requires.search (rw (c.deref.ensures.value, c.in_ok-end.ensures.gone, c.root-root.ensures) at c.forget_all.ensures)
             scope.listed;

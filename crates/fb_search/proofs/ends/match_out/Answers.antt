@@ -67,6 +67,7 @@ returns c =
         graph = scope.graph;
         plan = scope.plan;
         node = scope.node;
+        defects = scope.defects;
         listed =
             out_listed w c.args.plus c.in_ok-link.link made.walk c.link_out.new.links c.end_tree.new.links c.requires.search made.adds
             c.in_ok-end_tree.ensures.links c.args.pieces.now.parts.seams c.list.new.self c.far_owner-owner.result scope.listed c.in_ok-list.ensures

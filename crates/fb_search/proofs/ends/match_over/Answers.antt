@@ -58,6 +58,7 @@ returns c =
         graph = scope.graph;
         plan = scope.plan;
         node = scope.node;
+        defects = scope.defects;
         listed =
             met_listed w c.args.plus c.in_ok-link.link made.walk c.link_between.new.links c.end_tree.new.links c.requires.search made.adds
             c.in_ok-end_tree.ensures.links c.args.other c.args.pieces.now.parts.seams scope.listed;

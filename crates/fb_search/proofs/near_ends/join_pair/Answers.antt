@@ -84,6 +84,7 @@ returns c =
         graph = own.graph;
         plan = own.plan;
         node = own.node;
+        defects = c.requires.scope.defects;
         listed =
             near_met_listed part c.in_ok-link.link made.walk c.link_between.new.links c.requires.part made.adds c.args.root c.args.pair.other
             c.args.parts.now.seams c.requires.scope.listed;

@@ -178,6 +178,7 @@ returns c =
         graph = scope.graph;
         plan = scope.plan;
         node = scope.node;
+        defects = scope.defects;
         listed =
             opened_listed w c.args.node e c.child_at-above.result c.child_at-below.result c.requires.search opens
             c.forget_all.new.links c.open_up-cycle.new.self c.replace.new.self c.watch_node.new.watch has c.args.pieces.now.parts.seams scope.listed;

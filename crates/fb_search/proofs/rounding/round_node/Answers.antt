@@ -18,6 +18,7 @@ join_cycle-requires c =
         graph = scope.graph;
         plan = scope.plan;
         node = scope.node;
+        defects = scope.defects;
         listed =
             listed_made (search_of c.args.pieces.now) c.args.pieces.now.parts.seams c.join_ends.new.self c.in_ok-closing.closing _
             c.args.pieces.now.parts.matching.matches c.requires.search c.in_ok-closing.ensures.ok (λ m a. a) scope.listed;

@@ -1,4 +1,6 @@
 use Rattle.std.proofs.Common.{◌∙◌, ◌++◌, drop, length, map, refl, sym, ap, subst}
+use Rattle.std.specs.Prelude.{OnOk}
+use Rattle.std.specs.List.Sorted.{IsStrictlyIncreasing}
 use Rattle.fb_graph.specs.Certificate.{AreDistinct}
 use Rattle.fb_links.specs.Names.{name_by}
 use Rattle.fb_graph.specs.Limits.{IsWithinLimits, no_shot}
@@ -9,10 +11,12 @@ use Rattle.fb_plan.proofs.ShotPlans.{shot_plan}
 use Rattle.fb_half.specs.InternalMerging.{joined_part}
 use Rattle.fb_half.specs.InternalSeams.{AreBesideListed, IsOpened, met_nodes}
 use Rattle.fb_half.specs.Matchings.{listed_names, matched_names}
-use Rattle.fb_half.specs.Merged.{renamed_match}
+use Rattle.fb_half.specs.InternalUnions.{IsRisingUnion}
+use Rattle.fb_half.specs.Merged.{renamed_match, seam_defects}
 use Rattle.fb_half.specs.Merged as promised
-use Rattle.fb_half.specs.Parts.{PartValue, graph_in, shot_of}
-use Rattle.fb_half.specs.Values.{HasScope, part_of}
+use Rattle.fb_half.specs.Parts.{IsPart, PartValue, graph_in, problem_in, shot_of}
+use Rattle.fb_half.specs.Seams.{AreListed}
+use Rattle.fb_half.specs.Values.{IsScopeOf, part_of}
 use Rattle.fb_half.specs.declared.merging.MergedParts.{MergedParts}
 use Rattle.fb_half.proofs.BesideNodes.{new_names}
 use Rattle.fb_half.proofs.DoneSteps.{done_with}
@@ -21,6 +25,7 @@ use Rattle.fb_half.proofs.FusedMatches.{merged_is}
 use Rattle.fb_half.proofs.GivenHalves.{halves_of, pieces_are}
 use Rattle.fb_half.proofs.ListedHalves.{beside_listed}
 use Rattle.fb_half.proofs.MergedHalves.{beside, leaves_apart, matches_distinct, scoped_parts}
+use Rattle.fb_half.proofs.OwnDefects.{own_joined, own_rises}
 use Rattle.fb_half.proofs.SlotScopes.{graphs_alike, scope_graph_is}
 use Rattle.fb_half.proofs.work.Work.merge_with_spare.Goals as goal
 
@@ -120,6 +125,16 @@ complete-requires-clause-beside c =
     h.same_job c.into_parts-left.result.seams c.into_parts-right.result.seams c.in_ok-merged.merged.parts.seams
     c.in_ok-merged.ensures.left_seams c.in_ok-merged.ensures.right_seams c.into_parts-left.ensures.scope.listed c.into_parts-right.ensures.scope.listed)
 
+pub complete-requires-clause-defects : goal.complete-requires-clause-defects
+complete-requires-clause-defects c =
+    subst IsStrictlyIncreasing (sym (c.in_ok-merged.ensures.defects ∙ c.into_parts-left.ensures.scope.defects))
+    (own_rises (part_of c.into_parts-left.result) (subst IsPart (sym c.into_parts-left.ensures.value) c.keeps-2.ensures.part))
+
+pub complete-requires-clause-other_defects : goal.complete-requires-clause-other_defects
+complete-requires-clause-other_defects c =
+    subst IsStrictlyIncreasing (sym (c.in_ok-merged.ensures.other_defects ∙ c.into_parts-right.ensures.scope.defects))
+    (own_rises (part_of c.into_parts-right.result) (subst IsPart (sym c.into_parts-right.ensures.value) c.keeps-3.ensures.part))
+
 pub invariant_of-result : goal.invariant_of-result
 invariant_of-result c =
     let h =
@@ -139,9 +154,33 @@ invariant_of-result c =
     (ap (λ l. record {
       matches = l.matches ++ map (renamed_match (name_by c.in_ok-merged.merged.link_names.items) (name_by c.in_ok-merged.merged.names.items)) c.in_ok-merged.merged.others.matches;
       unmatched = l.unmatched;
-    }) c.in_ok-merged.ensures.matching) in (
-      done_with (λ (m : MergedParts). HasScope m.parts) c.complete.result c.complete.new.merged c.in_ok-whole.whole
-          c.in_ok-whole.ensures c.complete.ensures.scope,
+    }) c.in_ok-merged.ensures.matching) in
+    let keeps : (P : MergedParts → Type 0) → OnOk c.complete.result (P c.complete.new.merged) → P c.in_ok-whole.whole =
+    λ P. done_with P c.complete.result c.complete.new.merged c.in_ok-whole.whole c.in_ok-whole.ensures in
+    let scope : IsScopeOf c.in_ok-whole.whole.parts.regions.scope (part_of c.in_ok-whole.whole.parts) =
+    keeps (λ m. IsScopeOf m.parts.regions.scope (part_of m.parts)) c.complete.ensures.scope in
+    let opened : IsOpened (drop (length (made.matching.unmatched ++ met_nodes made)) c.in_ok-whole.whole.parts.matching.unmatched) made (part_of c.in_ok-whole.whole.parts) =
+    keeps (λ m. IsOpened (drop (length (made.matching.unmatched ++ met_nodes made)) m.parts.matching.unmatched) made (part_of m.parts)) c.complete.ensures.opened in (
+      record {
+        graph = scope.graph;
+        plan = scope.plan;
+        node = scope.node;
+        listed =
+            keeps (λ m. AreListed (problem_in (part_of m.parts)).is_real m.parts.job.now.plan m.parts.seams m.parts.links m.parts.matching.matches)
+            c.complete.ensures.listed;
+        defects =
+            own_joined (part_of c.into_parts-left.result) (part_of c.into_parts-right.result) c.args.node h.limits h.children h.one h.two h.matched h.also
+            (part_of c.in_ok-whole.whole.parts) c.in_ok-merged.merged.parts.defects.items c.in_ok-merged.merged.other_defects.items c.in_ok-whole.whole.parts.defects.items
+            (opened.job ∙ c.in_ok-merged.ensures.job) (opened.slot ∙ c.in_ok-merged.ensures.slot)
+            (opened.node ∙ (c.in_ok-merged.ensures.node ∙ c.scope-scope.ensures.node)) h.same_job h.same_slot
+            (c.in_ok-merged.ensures.defects ∙ c.into_parts-left.ensures.scope.defects)
+            (c.in_ok-merged.ensures.other_defects ∙ c.into_parts-right.ensures.scope.defects)
+            (subst (λ l. IsRisingUnion (c.in_ok-merged.merged.parts.defects.items ++ c.in_ok-merged.merged.other_defects.items) l c.in_ok-whole.whole.parts.defects.items)
+            (λ i. seam_defects (c.in_ok-merged.ensures.job i) (c.in_ok-merged.ensures.slot i) ((c.in_ok-merged.ensures.node ∙ c.scope-scope.ensures.node) i))
+            (keeps (λ m. IsRisingUnion (c.in_ok-merged.merged.parts.defects.items ++ c.in_ok-merged.merged.other_defects.items)
+            (seam_defects c.in_ok-merged.merged.parts.job.now c.in_ok-merged.merged.parts.slot c.in_ok-merged.merged.parts.node) m.parts.defects.items)
+            c.complete.ensures.defects));
+      },
       fused_part (part_of c.into_parts-left.result) (part_of c.into_parts-right.result) c.args.node h.limits h.children h.one h.two h.matched h.also
           c.in_ok-merged.merged.link_names.items c.in_ok-merged.merged.names.items c.in_ok-merged.merged.parts.links c.in_ok-merged.merged.parts.blossoms c.in_ok-merged.ensures.links stores
           (drop (length (made.matching.unmatched ++ met_nodes made)) c.in_ok-whole.whole.parts.matching.unmatched) (part_of c.in_ok-whole.whole.parts)

@@ -46,7 +46,7 @@ invariant_of-self c =
     kept_limits w.part (scope_graph c.scope.result.now) c.scope.result.now.plan.now c.scope.result.now.node graph plan node c.limits.ensures in
     let at = end_taken w c.args.edge a _ (ap (λ g. g.edges) graph) c.free_end-taken.result c.free_end-taken.ensures in
     rw (c.absorb.ensures, nodes_taken w c.args.edge a _ (ap (λ g. g.edges) scope.graph)) (
-      record { graph = scope.graph; plan = scope.plan; node = scope.node; listed = scope.listed },
+      record { graph = scope.graph; plan = scope.plan; node = scope.node; listed = scope.listed; defects = scope.defects },
       searching_raised w c.args.edge a.from a.to a.name c.watch_taken.new.watch c.self.invariant.1 limits a.may
           c.keeps.ensures.within
           (kept_taken w.part (scope_graph c.scope.result.now) c.scope.result.now.plan.now c.scope.result.now.node c.free_end-taken.result a.to _ _

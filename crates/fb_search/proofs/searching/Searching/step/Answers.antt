@@ -49,7 +49,7 @@ invariant_of-self c =
     (ap (λ s. s.node) c.scope.ensures ∙ scope.node) c.limits.ensures in
     let lowered : c.lower.new.self ≡ lowered_by c.args.length w.watched = c.lower.ensures in
     rw (c.step_nodes.ensures, lowered) (
-      record { graph = scope.graph; plan = scope.plan; node = scope.node; listed = scope.listed },
+      record { graph = scope.graph; plan = scope.plan; node = scope.node; listed = scope.listed; defects = scope.defects },
       searching_stepped w c.args.length c.self.invariant.1 limits may,
     )
 

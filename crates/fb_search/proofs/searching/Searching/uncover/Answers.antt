@@ -34,7 +34,7 @@ invariant_of-self c =
     let scope = c.self.invariant.0 in
     let graph = ap scope_graph c.scope.ensures ∙ scope.graph in
     rw c.uncover.ensures (
-      record { graph = scope.graph; plan = scope.plan; node = scope.node; listed = scope.listed },
+      record { graph = scope.graph; plan = scope.plan; node = scope.node; listed = scope.listed; defects = scope.defects },
       searching_lowered w c.args.node c.last_vertex-freed.result c.watch_taken.new.watch c.self.invariant.1 may.0 may.1
           c.last_vertex-freed.ensures.last c.keeps.ensures.within
           (kept_taken w.part (scope_graph c.scope.result.now) c.scope.result.now.plan.now c.scope.result.now.node c.last_vertex-freed.result
