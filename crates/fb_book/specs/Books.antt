@@ -76,7 +76,7 @@ pub record AreRootPieces {P : Type 0} (job_of : P → JobValue) (slot_of node_of
       → IsPieceAt job_of slot_of node_of made_of job (place_of job s (root_of job.plan)) p
 
 abbrev pub no_graph : DecodingGraph
-no_graph = record { vertices = 0; edges = []; virtuals = [] }
+no_graph = record { vertices = 0; edges = []; negatives = []; virtuals = [] }
 
 abbrev pub no_plan : PlanTree
 no_plan = record { units = 0; joins = []; owners = [] }

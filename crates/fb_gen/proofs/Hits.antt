@@ -12,7 +12,7 @@ use Rattle.fb_graph.proofs.OddComponents.{no_correction}
 use Rattle.fb_graph.proofs.ParitySums.{odd-append, differ-false, differ_comm}
 use Rattle.fb_graph.proofs.Ranges.{filter-range_same, filter-range_rises, filter-range_below, is_in-filter-range}
 use Rattle.fb_graph.proofs.Sets.{All-from_is_in, is_in-filter}
-use Rattle.fb_graph.proofs.ShotGraphs.{no_changes}
+use Rattle.fb_graph.proofs.ShotGraphs.{plain_is_shot}
 use Rattle.fb_gen.specs.Drawing.{next_state, state_after, drawn_after, hits_of, defects_from, shot_from}
 
 pub next_state-wrapping : (x : ℕ)
@@ -74,13 +74,11 @@ found_as_shot g x y rate flags told found shot is e same each begun =
     is ∙ ap plain_shot (found_as_defects g x y rate flags told found e same each begun)
 
 pub drawn_is_shot : (g : DecodingGraph) (chosen : List ℕ) → IsShot g (shot_from g chosen)
-drawn_is_shot g chosen = record {
-  rising = filter-range_rises _ g.vertices;
-  real = All-from_is_in (λ v. is_real_in g v ≡ true) (defects_from g chosen)
-      (λ v within. (and_parts (is_real_in g v) _ (and_parts (is_in (range_with_len 0 g.vertices) v) _
-      (sym (is_in-filter _ (range_with_len 0 g.vertices) v) ∙ within)).1).0);
-  changes = no_changes (length g.edges);
-}
+drawn_is_shot g chosen =
+    plain_is_shot g (defects_from g chosen) (filter-range_rises _ g.vertices)
+    (All-from_is_in (λ v. is_real_in g v ≡ true) (defects_from g chosen)
+    (λ v within. (and_parts (is_real_in g v) _ (and_parts (is_in (range_with_len 0 g.vertices) v) _
+    (sym (is_in-filter _ (range_with_len 0 g.vertices) v) ∙ within)).1).0))
 
 pub drawn_flips : (g : DecodingGraph) (chosen : List ℕ) (shot : ShotValue) → shot ≡ shot_from g chosen
     → Flips (problem_of g shot) chosen

@@ -2,7 +2,7 @@
 use Rattle.std.proofs.Common.{ℕ, ◌≤◌, ◌≡◌, true, cond, List, get_or, All, sum_by, ◌∙◌, le_trans, le_of_eq, arith}
 use Rattle.fb_graph.specs.Parity.{is_odd_count}
 use Rattle.fb_graph.specs.Problem.{Problem, Flips, edge_at, no_edge, touches, crosses, weight_of}
-use Rattle.fb_graph.specs.Certificate.{AreDistinct, IsOddCut, IsPacking, IsBest, load_of}
+use Rattle.fb_graph.specs.Certificate.{AreDistinct, IsOddCut, IsPacking, IsCertified, load_of}
 use Rattle.fb_graph.specs.Laws.{WeakDuality, LeastWeight, EqualWeights}
 use Rattle.fb_graph.specs.declared.parts.Cut.{Cut}
 use Rattle.fb_graph.proofs.ParitySums.{odd_same, odd_agree, odd_exchange}
@@ -33,9 +33,9 @@ value-le-crossings p chosen c flips odd =
     (odd-crosses p chosen c.vertices flips odd.distinct odd.real ∙ odd.odd)
 
 -- the cuts of a certificate are a packing
-pub packing_of_best : (p : Problem) (chosen : List ℕ) (weight : ℕ) (cuts : List Cut) → IsBest p chosen weight cuts
+pub packing_of_certified : (p : Problem) (chosen : List ℕ) (weight : ℕ) (cuts : List Cut) → IsCertified p chosen weight cuts
     → IsPacking p cuts
-packing_of_best p chosen weight cuts best =
+packing_of_certified p chosen weight cuts best =
     record { odd = λ k d less. (best.printed k d less).odd; fits = best.fits }
 
 pub weak_duality : WeakDuality
@@ -52,7 +52,7 @@ weak_duality p cuts chosen packing within flips =
 
 pub least_weight : LeastWeight
 least_weight p chosen weight cuts best other edge_set flips =
-    le_trans (le_of_eq best.total) (weak_duality p cuts other (packing_of_best p chosen weight cuts best) edge_set.within flips)
+    le_trans (le_of_eq best.total) (weak_duality p cuts other (packing_of_certified p chosen weight cuts best) edge_set.within flips)
 
 pub equal_weights : EqualWeights
 equal_weights p chosen other weight other_weight cuts other_cuts best other_best =

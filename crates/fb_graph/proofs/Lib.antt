@@ -39,8 +39,15 @@ pub mod RaisedNests
 pub mod Ranges
 pub mod RenamedNodes
 pub mod Sets
+pub mod ShiftedShots
+pub mod ShotBases
 pub mod ShotGraphs
+pub mod ShiftedRows
+pub mod Shifts
 pub mod Shots
+pub mod SignSteps
+pub mod SignTurns
+pub mod SignedSums
 pub mod SortedChanges
 pub mod SourceWalks
 pub mod SplitNests

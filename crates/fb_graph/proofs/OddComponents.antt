@@ -4,7 +4,7 @@ use Rattle.std.proofs.lemmas.Bool.{false≢true, both_ways}
 use Rattle.fb_graph.specs.Parity.{differ, is_odd_count, is_in}
 use Rattle.fb_graph.specs.Problem.{Problem, edge_at, crosses}
 use Rattle.fb_graph.specs.Components.{IsJoined, IsComponent, IsOddAt}
-use Rattle.fb_graph.specs.Laws.{NoCorrection, BestHasNoOdd, ClosedIsOdd, LeastIsFirstOdd, SomeIsFirstOdd}
+use Rattle.fb_graph.specs.Laws.{NoCorrection, CertifiedHasNoOdd, ClosedIsOdd, LeastIsFirstOdd, SomeIsFirstOdd}
 use Rattle.fb_graph.proofs.ParitySums.{odd_agree, odd_none}
 use Rattle.fb_graph.proofs.Sets.{All-from_is_in, is_in-All, member_of_odd, least_member}
 use Rattle.fb_graph.proofs.Walks.{joined_trans, joined_sym, joined_ends, walk_stays}
@@ -32,8 +32,8 @@ no_correction p v odd chosen within flips =
     (odd-crosses p chosen odd.members flips odd.component.distinct
     (All-from_is_in (λ u. p.is_real u ≡ true) odd.members odd.real) ∙ odd.odd)
 
-pub best_has_no_odd : BestHasNoOdd
-best_has_no_odd p chosen weight cuts best v odd = no_correction p v odd chosen best.edge_set.within best.flips
+pub certified_has_no_odd : CertifiedHasNoOdd
+certified_has_no_odd p chosen weight cuts best v odd = no_correction p v odd chosen best.edge_set.within best.flips
 
 pub closed_is_odd : ClosedIsOdd
 closed_is_odd p v set round odd = record {

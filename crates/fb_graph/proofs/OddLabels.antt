@@ -1,13 +1,14 @@
 -- The vertices of one label are a component, so that the first odd component is found by its label.
-use Rattle.std.proofs.Common.{ℕ, ◌<◌, ◌≤◌, ◌≡◌, ◌==◌, ◌⊎◌, ◌&&◌, Bool, true, false, not, List, [], ◌∷◌, length, map, get_or, filter, Option, Some, None, IfNone, sym, ap, subst, ◌∙◌, inl, inr, arith}
+use Rattle.std.proofs.Common.{ℕ, ◌<◌, ◌≤◌, ◌≡◌, ◌==◌, ◌⊎◌, ◌&&◌, Bool, true, false, not, List, [], ◌∷◌, length, map, get_or, filter, All, Option, Some, None, IfNone, sym, ap, subst, ◌∙◌, inl, inr, arith}
 use Rattle.std.specs.List.{range_with_len}
+use Rattle.std.specs.List.Sorted.{IsStrictlyIncreasing}
 use Rattle.std.proofs.lemmas.Bool.{false≢true, both_ways, eq-eqb, eqb-true, and_from, and_parts, not-true, not_from_false, false_from_ne_true, not-false}
 use Rattle.std.proofs.lemmas.List.Folds.{list_any_none}
 use Rattle.fb_graph.specs.Parity.{is_odd_count, is_in}
 use Rattle.fb_graph.specs.Problem.{Problem, edge_at, no_edge, with_defects}
 use Rattle.fb_graph.specs.Certificate.{AreDistinct}
 use Rattle.fb_graph.specs.Components.{Leads, IsWalkBy, IsJoined, IsComponent, IsOddAt, IsFirstOdd}
-use Rattle.fb_graph.specs.Limits.{IsShotIn, IsWithinLimits}
+use Rattle.fb_graph.specs.Limits.{IsWithinLimits}
 use Rattle.fb_graph.specs.Laws.{HasNoOddClosed}
 use Rattle.fb_graph.specs.InternalLabelling.{IsLabelling, IsBounded, AreOdd, label_of, has_boundary, odd_labels}
 use Rattle.fb_graph.specs.declared.parts.Edge.{Edge}
@@ -115,15 +116,15 @@ module _ (p : Problem) (labels : List ℕ) (limits : IsWithinLimits p) (labellin
   }
 
   module _ (bounded odd : List Bool) (boundary : IsBounded p labels bounded) (counts : AreOdd labels defects odd)
-      {changes : List (ℕ × ℕ)} (shot : IsShotIn p (record { defects = defects; changes = changes })) where
+      (rising : IsStrictlyIncreasing defects) (real : All (λ v. p.is_real v ≡ true) defects) where
     defect_below : (d : ℕ) → is_in defects d ≡ true → d < p.vertices
     defect_below d among =
-        limits.real_below d (is_in-All (λ v. p.is_real v ≡ true) defects shot.real d among)
+        limits.real_below d (is_in-All (λ v. p.is_real v ≡ true) defects real d among)
 
     -- the parity of the defects in a component
     parity_of : (r : ℕ) → is_odd_count (is_in defects) (members_of r) ≡ is_odd_count (λ d. label_of labels d == r) defects
     parity_of r =
-        odd_shared (members_of r) defects (members_distinct r) (distinct_from_rising defects shot.rising)
+        odd_shared (members_of r) defects (members_distinct r) (distinct_from_rising defects rising)
         ∙ odd_agree (is_in (members_of r)) (λ d. label_of labels d == r) defects
         (All-from_is_in (λ d. is_in (members_of r) d ≡ (label_of labels d == r)) defects
         (λ d among. in_members r d (defect_below d among)))

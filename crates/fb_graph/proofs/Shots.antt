@@ -1,5 +1,5 @@
 -- The defects of a shot, sorted.
-use Rattle.std.proofs.Common.{ℕ, zero, suc, ◌+◌, ◌<◌, ◌≤◌, ◌≡◌, ◌==◌, ◌⊎◌, inl, inr, true, nat_lt, not, List, [], ◌∷◌, length, get_or, All, count_by, refl, sym, ap, arith}
+use Rattle.std.proofs.Common.{ℕ, ℤ, zero, suc, ◌+◌, ◌<◌, ◌≤◌, ◌≡◌, ◌==◌, ◌⊎◌, inl, inr, true, nat_lt, not, List, [], ◌∷◌, length, get_or, All, count_by, refl, sym, ap, arith}
 use Rattle.std.specs.List.{range_with_len}
 use Rattle.std.specs.List.Sorted.{IsPermutation, IsSorted, IsStrictlyIncreasing}
 use Rattle.std.specs.Ordering.{nat_cmp}
@@ -9,7 +9,7 @@ use Rattle.std.proofs.lemmas.List.Sorted.{All-permutation, IsNonDecreasingBy-fro
 use Rattle.std.proofs.lemmas.List.Sums.{sum_by-cons}
 use Rattle.fb_graph.specs.Parity.{is_in}
 use Rattle.fb_graph.specs.Certificate.{AreDistinct}
-use Rattle.fb_graph.specs.Limits.{AreChanges, DecodingGraph, IsGraph, IsShot, is_real_in, most_vertices}
+use Rattle.fb_graph.specs.Limits.{AreChanges, DecodingGraph, IsGraph, IsShot, is_real_in, most_vertices, turned_by}
 use Rattle.fb_graph.specs.Counts.{as_count}
 use Rattle.fb_graph.proofs.Sets.{count_equal-le, distinct_from_rising, is_in-All, is_in-range, length-le_from_within, range_rises}
 
@@ -57,16 +57,16 @@ rising_from_sort vs ws distinct permuted sorted k less =
     step (inr other) low = omega (arith, other)
 
 -- a shot has at most as many defects as its graph has vertices
-pub length-shot : (g : DecodingGraph) (defects : List ℕ) (changes : List (ℕ × ℕ)) → IsGraph g
-    → IsShot g (record { defects = defects; changes = changes }) → length defects ≤ most_vertices
-length-shot g defects changes graph shot =
+pub length-shot : (g : DecodingGraph) (defects : List ℕ) → IsGraph g → IsStrictlyIncreasing defects
+    → All (λ v. is_real_in g v ≡ true) defects → length defects ≤ most_vertices
+length-shot g defects graph rising real =
     omega (
       arith,
       graph.vertices,
       length-range_with_len 0 g.vertices,
-      length-le_from_within defects (range_with_len 0 g.vertices) (distinct_from_rising defects shot.rising)
+      length-le_from_within defects (range_with_len 0 g.vertices) (distinct_from_rising defects rising)
           (distinct_from_rising (range_with_len 0 g.vertices) (range_rises 0 g.vertices))
-          (λ v within. is_in-range g.vertices v (below v (is_in-All (λ u. is_real_in g u ≡ true) defects shot.real v within))),
+          (λ v within. is_in-range g.vertices v (below v (is_in-All (λ u. is_real_in g u ≡ true) defects real v within))),
     )
   where
     below : (v : ℕ) → is_real_in g v ≡ true → v < g.vertices
@@ -74,9 +74,11 @@ length-shot g defects changes graph shot =
 
 pub shot_from_sort : (g : DecodingGraph) (given defects : List ℕ) → AreDistinct given
     → All (λ v. is_real_in g v ≡ true) given → IsPermutation given defects → IsSorted nat_cmp defects
-    → (changes : List (ℕ × ℕ)) → AreChanges (length g.edges) changes → IsShot g (record { defects = defects; changes = changes })
+    → (changes : List (ℕ × ℤ)) → AreChanges (length g.edges) changes
+    → IsShot g (record { defects = defects; changes = changes; turned = turned_by g changes })
 shot_from_sort g given defects distinct real permuted sorted changes are = record {
   rising = rising_from_sort given defects distinct permuted sorted;
   real = All-permutation (λ v. is_real_in g v ≡ true) given defects permuted real;
   changes = are;
+  turned = refl;
 }

@@ -54,8 +54,9 @@ abbrev pub AreRising : List Cut → Type 0
 AreRising [] = Unit {0}
 AreRising (c ∷ cs) = IsBefore c cs × AreRising cs
 
--- A correction with its certificate. If it holds, no correction weighs less (see the law of weak duality).
-pub record IsBest (p : Problem) (chosen : List ℕ) (weight : ℕ) (cuts : List Cut) : Type 0 where
+-- A correction of the problem with its certificate. If it holds, no correction weighs less (see the law of weak
+-- duality).
+pub record IsCertified (p : Problem) (chosen : List ℕ) (weight : ℕ) (cuts : List Cut) : Type 0 where
   pub edge_set : IsEdgeSet p chosen
   pub flips : Flips p chosen
   pub weighs : weight ≡ weight_of p chosen

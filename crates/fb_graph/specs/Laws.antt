@@ -4,7 +4,7 @@ use Rattle.std.specs.List.{range_with_len}
 use Rattle.std.specs.List.Sorted.{IsStrictlyIncreasing}
 use Rattle.fb_graph.specs.Parity.{differ, is_odd_count, is_in}
 use Rattle.fb_graph.specs.Problem.{Problem, Flips, IsEdgeSet, edge_at, weight_of, touches, crosses}
-use Rattle.fb_graph.specs.Certificate.{AreDistinct, IsOddCut, IsPacking, IsBest, load_of, total_value}
+use Rattle.fb_graph.specs.Certificate.{AreDistinct, IsOddCut, IsPacking, IsCertified, load_of, total_value}
 use Rattle.fb_graph.specs.Components.{IsWalkBy, IsJoined, IsOddAt, IsFirstOdd}
 use Rattle.fb_graph.specs.declared.parts.Edge.{Edge}
 use Rattle.fb_graph.specs.declared.parts.Cut.{Cut}
@@ -17,13 +17,13 @@ WeakDuality = (p : Problem) (cuts : List Cut) (chosen : List ℕ) → IsPacking 
 
 -- No correction weighs less than one with a certificate.
 abbrev pub LeastWeight : Type 0
-LeastWeight = (p : Problem) (chosen : List ℕ) (weight : ℕ) (cuts : List Cut) → IsBest p chosen weight cuts
+LeastWeight = (p : Problem) (chosen : List ℕ) (weight : ℕ) (cuts : List Cut) → IsCertified p chosen weight cuts
     → (other : List ℕ) → IsEdgeSet p other → Flips p other → weight ≤ weight_of p other
 
 -- Two corrections of one problem, each with a certificate, weigh the same.
 abbrev pub EqualWeights : Type 0
 EqualWeights = (p : Problem) (chosen other : List ℕ) (weight other_weight : ℕ) (cuts other_cuts : List Cut)
-    → IsBest p chosen weight cuts → IsBest p other other_weight other_cuts → weight ≡ other_weight
+    → IsCertified p chosen weight cuts → IsCertified p other other_weight other_cuts → weight ≡ other_weight
 
 -- An odd component without boundary has no correction: each edge has both ends in it or none, so that the edges of
 -- any list end in it an even number of times.
@@ -32,9 +32,9 @@ NoCorrection = (p : Problem) (v : ℕ) → IsOddAt p v
     → (chosen : List ℕ) → All (λ k. k < length p.edges) chosen → ¬ Flips p chosen
 
 -- A problem with a certified correction has no odd component.
-abbrev pub BestHasNoOdd : Type 0
-BestHasNoOdd = (p : Problem) (chosen : List ℕ) (weight : ℕ) (cuts : List Cut)
-    → IsBest p chosen weight cuts → IsFirstOdd p None
+abbrev pub CertifiedHasNoOdd : Type 0
+CertifiedHasNoOdd = (p : Problem) (chosen : List ℕ) (weight : ℕ) (cuts : List Cut)
+    → IsCertified p chosen weight cuts → IsFirstOdd p None
 
 -- distinct real vertices that no edge of the problem leaves
 pub record IsClosed (p : Problem) (set : List ℕ) : Type 0 where

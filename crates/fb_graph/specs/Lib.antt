@@ -27,6 +27,8 @@ pub mod Printed
 pub mod Problem
 pub mod RenamedNodes
 pub mod ShotGraphs
+pub mod Signed
+pub mod Signs
 pub mod Singles
 pub mod SourceWalks
 pub mod Steps

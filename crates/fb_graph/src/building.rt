@@ -6,7 +6,7 @@ ghost use Rattle.std.specs.Bool.{beq};
 ghost use Rattle.fb_graph.specs.Parity.{is_in};
 ghost use Rattle.fb_graph.specs.Adjacency.{edges_at};
 ghost use Rattle.fb_graph.specs.InternalLayout.{with_edge};
-ghost use Rattle.fb_graph.specs.Limits.{IsEdge, most_edges, most_vertices};
+ghost use Rattle.fb_graph.specs.Limits.{IsEdge, most_edges};
 ghost use Rattle.fb_graph.specs.GraphRules.{edge_fault, edges_fault, virtuals_fault, edge_from};
 
 use crate::faults::{GraphFault, NoMemory};
@@ -29,8 +29,8 @@ pub fn judge_edge(n: u32, i: usize, edge: (u64, u64, i128)) -> Option<GraphFault
         Some(GraphFault::OddWeight(place))
     } else if weight > i128::from(MOST_WEIGHT) {
         Some(GraphFault::WeightTooLarge(place))
-    } else if weight < 0 {
-        Some(GraphFault::NegativeWeight(place))
+    } else if weight < -i128::from(MOST_WEIGHT) {
+        Some(GraphFault::WeightTooSmall(place))
     } else {
         None
     }
@@ -94,15 +94,15 @@ pub fn mark_virtuals(alloc: Global, n: u32, virtuals: &[u64]) -> Result<Vec<bool
     Ok(flags)
 }
 
-/// The numbers of the vertices whose flag is as wanted, rising.
+/// The numbers of the vertices or edges whose flag is as wanted, rising.
 #[tactic(auto, using(crate::proofs::BuildSteps::range_steps))]
-pub fn vertices_flagged(alloc: Global, flags: &[bool], wanted: bool) -> Result<NumberList, NoMemory>
-    requires { length flags.now ≤ most_vertices }
+pub fn numbers_flagged(alloc: Global, flags: &[bool], wanted: bool) -> Result<NumberList, NoMemory>
+    requires { length flags.now ≤ most_edges }
     ensures { IfOk result (λ v. v ≡ filter (λ k. beq (get_or flags.now k false) wanted) (range_with_len 0 (length flags.now))) }
 {
     let mut found = NumberList::from_vec(Vec::new(alloc));
-    for (vertex, flag) in flags.iter().enumerate() {
-        found.push_if(*flag == wanted, vertex as u32)?;
+    for (number, flag) in flags.iter().enumerate() {
+        found.push_if(*flag == wanted, number as u32)?;
     }
     Ok(found)
 }

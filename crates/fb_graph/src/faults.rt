@@ -24,8 +24,8 @@ pub enum GraphFault {
     OddWeight(u64),
     #[error("the weight of edge {0} is above 1,073,741,824")]
     WeightTooLarge(u64),
-    #[error("the weight of edge {0} is negative")]
-    NegativeWeight(u64),
+    #[error("the weight of edge {0} is below -1,073,741,824")]
+    WeightTooSmall(u64),
     #[error("virtual vertex {0} is out of range")]
     VirtualOutOfRange(u64),
     #[error("virtual vertex {0} repeats an earlier one")]
@@ -69,7 +69,7 @@ impl GraphFault {
             GraphFault::SelfLoop(_) => "SelfLoop",
             GraphFault::OddWeight(_) => "OddWeight",
             GraphFault::WeightTooLarge(_) => "WeightTooLarge",
-            GraphFault::NegativeWeight(_) => "NegativeWeight",
+            GraphFault::WeightTooSmall(_) => "WeightTooSmall",
             GraphFault::VirtualOutOfRange(_) => "VirtualOutOfRange",
             GraphFault::VirtualRepeated(_) => "VirtualRepeated",
             GraphFault::NoMemory => "NoMemory",
@@ -86,7 +86,7 @@ impl GraphFault {
             GraphFault::SelfLoop(i) => Some(i),
             GraphFault::OddWeight(i) => Some(i),
             GraphFault::WeightTooLarge(i) => Some(i),
-            GraphFault::NegativeWeight(i) => Some(i),
+            GraphFault::WeightTooSmall(i) => Some(i),
             GraphFault::VirtualOutOfRange(i) => Some(i),
             GraphFault::VirtualRepeated(i) => Some(i),
         }

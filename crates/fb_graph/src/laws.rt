@@ -3,8 +3,11 @@
 ghost use Rattle.std.specs.Prelude.{◌≡◌};
 ghost use Rattle.fb_graph.specs.Limits.{most_edges, most_vertices, most_weight};
 ghost use Rattle.fb_graph.specs.declared.graph.TheConstants.{MOST_VERTICES, MOST_EDGES, MOST_WEIGHT};
-ghost use Rattle.fb_graph.specs.ShotGraphs.{ShotGraphIsGraph, SameFirstOdd, SameFlips};
-ghost use Rattle.fb_graph.specs.Laws.{WeakDuality, LeastWeight, EqualWeights, NoCorrection, BestHasNoOdd, ClosedIsOdd, LeastIsFirstOdd, SomeIsFirstOdd, PartHasNoOddClosed, EdgeLeaves, PackingOfPart, PackingsJoined, WalkParity, OddOnesRise, OddOnesCount, OddOnesWeigh, Resolving, NoOddComponent, NoOddClosedSet};
+ghost use Rattle.fb_graph.specs.ShotGraphs.{SameFirstOdd, SameFlips};
+ghost use Rattle.fb_graph.specs.Answers.{BestHasNoOdd, BestWeighsLeast, UnshiftedIsBest};
+ghost use Rattle.fb_graph.specs.Signed.{ShiftedFirstOdd, ShiftedNoOddClosed, SignedDuality, SignedLeast, SignedSolved};
+ghost use Rattle.fb_graph.specs.Signs.{NegativesByTurns, SameShiftedOdd, ShiftedByTurns, ShotDuality, ShotGraphIsGraph};
+ghost use Rattle.fb_graph.specs.Laws.{WeakDuality, LeastWeight, EqualWeights, NoCorrection, CertifiedHasNoOdd, ClosedIsOdd, LeastIsFirstOdd, SomeIsFirstOdd, PartHasNoOddClosed, EdgeLeaves, PackingOfPart, PackingsJoined, WalkParity, OddOnesRise, OddOnesCount, OddOnesWeigh, Resolving, NoOddComponent, NoOddClosedSet};
 
 /// The limits that `Graph::build` tests are those of the definitions.
 pub fn limits_of_graphs()
@@ -29,7 +32,7 @@ pub fn least_weight()
 /// ends in it or none. So a problem with a certified correction has no such component.
 pub fn odd_has_no_correction()
     ensures none { NoCorrection }
-    ensures best { BestHasNoOdd }
+    ensures certified { CertifiedHasNoOdd }
 {}
 
 /// A set of real vertices that no edge leaves, all of it joined to one of them, is a component; if it holds an odd
@@ -85,4 +88,39 @@ pub fn weights_of_shots()
     ensures graph { ShotGraphIsGraph }
     ensures odd { SameFirstOdd }
     ensures flips { SameFlips }
+{}
+
+/// Weak duality for weights of either sign (Edmonds and Johnson 1973): feasible odd cuts of the shifted problem are
+/// worth at most what a correction weighs above the base.
+pub fn signed_duality()
+    ensures problem { SignedDuality }
+    ensures shot { ShotDuality }
+{}
+
+/// A solution of the shifted problem, taken together with the negative edges, is a correction of least signed weight.
+pub fn signed_solution()
+    ensures solved { SignedSolved }
+    ensures least { SignedLeast }
+{}
+
+/// What solves a shot's shifted problem, taken together with the negative edges, is a best correction of the shot. A
+/// best one weighs least, so that two of them weigh the same; and a shot that has one has no odd component.
+pub fn best_corrections()
+    ensures best { UnshiftedIsBest }
+    ensures least { BestWeighsLeast }
+    ensures even { BestHasNoOdd }
+{}
+
+/// Shifting the defects leaves the parity of each component and of each closed set.
+pub fn shifted_parity()
+    ensures first { ShiftedFirstOdd }
+    ensures closed { ShiftedNoOddClosed }
+    ensures shot { SameShiftedOdd }
+{}
+
+/// The negative edges and the shifted defects of a shot follow from those of the graph and from the signs that the shot
+/// turns.
+pub fn turned_signs()
+    ensures negatives { NegativesByTurns }
+    ensures defects { ShiftedByTurns }
 {}

@@ -15,6 +15,7 @@ pub mod parts;
 pub mod printed;
 pub mod scope;
 pub mod shot;
+mod signs;
 pub mod steps;
 pub mod whole;
 
@@ -22,10 +23,11 @@ pub use changes::ChangeTable;
 pub use connected::{Components, first_odd};
 pub use connecting::{components, components_of};
 pub use faults::{GraphFault, NoMemory};
-pub use graph::{Graph, MOST_VERTICES};
+pub use graph::{Graph, MOST_VERTICES, MOST_WEIGHT};
 pub use laws::{
     closed_odd_set, least_weight, no_odd_closed_set, no_odd_component, odd_has_no_correction,
-    odd_occurrences, packings_of_parts, resolving, walk_parity, weak_duality, weights_of_shots,
+    odd_occurrences, packings_of_parts, resolving, turned_signs, walk_parity, weak_duality,
+    weights_of_shots,
 };
 pub use lists::{CutList, NumberList};
 pub use parts::{Cut, Edge, Row};

@@ -1,6 +1,6 @@
 use crate::lists::{CutList, NumberList};
 
-/// An edge between two vertices: an error that flips the detectors at both, and its weight.
+/// An edge between two vertices: an error that flips the detectors at both, and its weight without its sign.
 #[derive(Clone, Copy, Debug, PartialEq, Eq)]
 pub struct Edge {
     pub first: u32,
@@ -19,10 +19,12 @@ pub struct Cut {
 /// The result for one shot.
 #[derive(Debug, Drop)]
 pub enum Row {
-    /// A correction, its weight, and cuts whose values add up to it.
+    /// A correction, the sum of all negative weights, the correction's weight, and cuts whose values together with that
+    /// sum add up to it.
     Best {
         edges: NumberList,
-        weight: u64,
+        base: i128,
+        weight: i128,
         cuts: CutList,
     },
     /// The least vertex of the first component without boundary that holds an odd number of defects.

@@ -29,7 +29,7 @@ pub trait Scope: Copy + Drop {
         ensures first { result.0 ≡ (edge_at (problem self.now).edges e).first }
         ensures second { result.1 ≡ (edge_at (problem self.now).edges e).second };
 
-    /// The weight of an edge: even, at most `MOST_WEIGHT`.
+    /// The weight of an edge, without its sign: even, at most `MOST_WEIGHT`.
     fn weight(&self, e: u32) -> u64
         requires { e < length (problem self.now).edges }
         ensures { result ≡ (edge_at (problem self.now).edges e).weight };

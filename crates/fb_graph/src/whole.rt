@@ -30,7 +30,7 @@ impl Scope for Whole<'_> {
     }
 
     fn weight(&self, e: u32) -> u64 {
-        self.0.weight(e)
+        self.0.absolute_weight(e)
     }
 
     fn edges_at(&self, v: u32) -> &[u32] {

@@ -9,7 +9,7 @@ use Rattle.std.proofs.lemmas.List.Kept.{AllPairs-from_increasing}
 use Rattle.fb_graph.specs.Limits.{DecodingGraph, IsShot, is_real_in, detectors_of}
 use Rattle.fb_graph.specs.Parity.{is_in}
 use Rattle.fb_graph.proofs.Ranges.{filter-range_below, filter-range_rises}
-use Rattle.fb_graph.proofs.ShotGraphs.{no_changes}
+use Rattle.fb_graph.proofs.ShotGraphs.{plain_is_shot}
 use Rattle.fb_shots.specs.Formats.{vertices_of, shot_of_detectors}
 
 detectors_real : (g : DecodingGraph) → All (λ v. is_real_in g v ≡ true) (detectors_of g)
@@ -40,8 +40,4 @@ vertices_real g detectors below =
 pub vertices_are_shot : (g : DecodingGraph) (detectors : List ℕ) → IsStrictlyIncreasing detectors
     → All (λ k. k < length (detectors_of g)) detectors → IsShot g (shot_of_detectors g detectors)
 vertices_are_shot g detectors rising below =
-    record {
-      rising = vertices_rise g detectors rising below;
-      real = vertices_real g detectors below;
-      changes = no_changes (length g.edges);
-    }
+    plain_is_shot g (vertices_of g detectors) (vertices_rise g detectors rising below) (vertices_real g detectors below)

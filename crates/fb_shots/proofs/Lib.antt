@@ -1,4 +1,3 @@
-pub mod Lines
 pub mod Detectors
 pub mod GoingOn
 pub mod Readings

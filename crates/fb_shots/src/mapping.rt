@@ -2,11 +2,10 @@
 
 ghost use Rattle.std.specs.Prelude.{◌≡◌, ◌<◌, length, All};
 ghost use Rattle.std.specs.List.Sorted.{IsStrictlyIncreasing};
-ghost use Rattle.fb_graph.specs.Limits.{detectors_of, IsShot};
+ghost use Rattle.fb_graph.specs.Limits.{detectors_of};
 ghost use Rattle.fb_shots.specs.Formats.{shot_of_detectors, vertices_of};
 
 use fb_graph::{Graph, Shot};
-use fb_shots_json::ListedShot;
 
 /// Puts each detector's vertex in its place.
 fn put_vertices(graph: &Graph, detectors: &mut [u32])
@@ -34,16 +33,4 @@ pub fn shot_of_detectors(graph: &Graph, detectors: Vec<u32>) -> Shot
     ensures { result ≡ shot_of_detectors graph.now detectors.items }
 {
     Shot::from_rising(graph, vertices_of(graph, detectors))
-}
-
-/// The shot that a line lists. No memory is taken.
-pub fn shot_of_line(graph: &Graph, listed: ListedShot) -> Shot
-    requires { IsShot graph.now listed }
-    ensures { result ≡ listed }
-{
-    let (defects, changes) = listed.into_lists();
-    match Shot::with_changes(graph, defects, changes) {
-        Ok(shot) => shot,
-        Err(_) => unreachable!(),
-    }
 }

@@ -1,17 +1,17 @@
 //! One reader for all formats.
 
 ghost use Rattle.std.specs.Prelude.{◌≡◌, ◌++◌, [], false, true, length, IfOk, OnOk, OnErr};
-ghost use Rattle.fb_graph.specs.Limits.{detectors_of, IsShot};
+ghost use Rattle.fb_graph.specs.Limits.{detectors_of};
 ghost use Rattle.fb_records.specs.Answers.{IfShot};
 ghost use Rattle.fb_shots_stim.specs.Shots.{IsShotOf};
 ghost use Rattle.fb_shots.specs.InternalAnswers.{Answers, stim_answer, json_answer};
 ghost use Rattle.fb_shots.specs.InternalReaders.{source_of, IsReaderOf};
 
 use crate::answer::{Format, Kind, NoMemory};
-use crate::mapping::{shot_of_detectors, shot_of_line};
+use crate::mapping::shot_of_detectors;
 use fb_graph::{Graph, Shot};
 use fb_records::{Next, Numbers};
-use fb_shots_json::{ListedShot, RecordsJson};
+use fb_shots_json::RecordsJson;
 use fb_shots_stim::{Records01, RecordsB8, RecordsDets, RecordsHits, RecordsR8};
 use std::alloc::Global;
 use std::marker::Model;
@@ -89,7 +89,7 @@ impl<'a> FormatReader<'a> {
             FormatReader::Dets(reader) => Ok(on_vertices(graph, reader.next()?)),
             FormatReader::Hits(reader) => Ok(on_vertices(graph, reader.next()?)),
             FormatReader::R8(reader) => Ok(on_vertices(graph, reader.next()?)),
-            FormatReader::Json(reader) => Ok(of_lines(graph, reader.next()?)),
+            FormatReader::Json(reader) => Ok(of_lines(reader.next()?)),
         }
     }
 }
@@ -108,12 +108,11 @@ fn on_vertices(graph: &Graph, answer: Next<Numbers, fb_shots_stim::Kind>) -> Nex
 }
 
 /// The result of the reader of JSON lines.
-fn of_lines(graph: &Graph, answer: Next<ListedShot, fb_shots_json::Kind>) -> Next<Shot, Kind>
-    requires { IfShot (IsShot graph.now) answer }
+fn of_lines(answer: Next<Shot, fb_shots_json::Kind>) -> Next<Shot, Kind>
     ensures { result ≡ json_answer answer }
 {
     match answer {
-        Next::Shot(listed) => Next::Shot(shot_of_line(graph, listed)),
+        Next::Shot(shot) => Next::Shot(shot),
         Next::NotYet => Next::NotYet,
         Next::End => Next::End,
         Next::Refused(kind) => Next::Refused(Kind::Json(kind)),

@@ -14,7 +14,7 @@ use Rattle.fb_graph.specs.Parity.{is_in}
 use Rattle.fb_graph.specs.Counts.{as_count}
 use Rattle.fb_graph.proofs.Ranges.{filter-range_below, filter-range_rises, is_in-filter-range, not_in_below}
 use Rattle.fb_graph.proofs.Sets.{count_equal-le, distinct_from_rising, is_in-cases, rising_same}
-use Rattle.fb_graph.proofs.ShotGraphs.{no_changes}
+use Rattle.fb_graph.proofs.ShotGraphs.{plain_is_shot}
 use Rattle.fb_graph.proofs.Shots.{rising_from_sort}
 use Rattle.fb_shots_json.specs.declared.answer.Kind.{Kind}
 use Rattle.fb_shots_json.specs.declared.answer.Kind.TheVariants.{DefectOutOfRange, DefectOnVirtual, DefectRepeated}
@@ -157,11 +157,8 @@ defects_good g vs sorted none permuted rises =
     )
 
 pub defects_shot : (g : DecodingGraph) (vs sorted : List ℕ) → IsPermutation (real_prefix g vs) sorted → IsStrictlyIncreasing sorted → IsShot g (plain_shot sorted)
-defects_shot g vs sorted permuted rises = record {
-  rising = rises;
-  real = All-permutation (λ v. is_real_in g v ≡ true) (real_prefix g vs) sorted permuted (prefix_real g vs);
-  changes = no_changes (length g.edges);
-}
+defects_shot g vs sorted permuted rises =
+    plain_is_shot g sorted rises (All-permutation (λ v. is_real_in g v ≡ true) (real_prefix g vs) sorted permuted (prefix_real g vs))
 
 pub defects_bad : (g : DecodingGraph) (vs sorted : List ℕ) (kind : Kind) → first_fault (vertex_fault g) vs ≡ Some kind → IsPermutation (real_prefix g vs) sorted → IsStrictlyIncreasing sorted
     → defects_from g [] vs ≡ Err kind

@@ -1,17 +1,17 @@
 -- Shots as JSON values (RFC 8259), one to a line: the syndrome of Fusion Blossom (Wu and Zhong 2023), an object whose
 -- member `defect_vertices` lists the defects. Its members `erasures` and `dynamic_weights` list the edges that weigh
 -- otherwise in this shot than in the graph.
-use Rattle.std.specs.Prelude.{ℕ, ◌==◌, ◌%◌, nat_lt, nat_le, nat_eq, Bool, ◌||◌, if◌then◌else◌, List, [], ◌∷◌, ◌++◌, length, map, filter, reverse, codes, ℤ, pos, int_lt, unsigned_abs, Option, Some, None, option_map, option_and_then, Result, Ok, Err}
+use Rattle.std.specs.Prelude.{ℕ, ◌==◌, ◌%◌, nat_lt, nat_le, nat_eq, Bool, ◌||◌, if◌then◌else◌, List, [], ◌∷◌, ◌++◌, length, map, filter, reverse, codes, ℤ, pos, neg_ℤ, int_lt, unsigned_abs, Option, Some, None, option_map, option_and_then, Result, Ok, Err}
 use Rattle.std.specs.List.{list_all, range_with_len}
 use Rattle.std.specs.Option.{option_or}
 use Rattle.serde_json.specs.Data.{Data, null, Items, no_items, item}
 use Rattle.serde_json.specs.Find.{get, as_array, as_integer, as_number}
 use Rattle.fb_json.specs.JsonText.{most_bytes, natural_of, value_of, with_option, with_result}
 use Rattle.fb_graph.specs.Parity.{is_in}
-use Rattle.fb_graph.specs.Limits.{DecodingGraph, ShotValue, most_weight}
+use Rattle.fb_graph.specs.Limits.{DecodingGraph, ShotValue, most_weight, turned_by}
 use Rattle.fb_graph.specs.ShotGraphs.{weight_by}
 use Rattle.fb_shots_json.specs.declared.answer.Kind.{Kind}
-use Rattle.fb_shots_json.specs.declared.answer.Kind.TheVariants.{LineTooLong, NotJson, NoDefects, DefectOutOfRange, DefectOnVirtual, DefectRepeated, NotChanges, ShotEdgeOutOfRange, OddShotWeight, ShotWeightTooLarge, NegativeShotWeight}
+use Rattle.fb_shots_json.specs.declared.answer.Kind.TheVariants.{LineTooLong, NotJson, NoDefects, DefectOutOfRange, DefectOnVirtual, DefectRepeated, NotChanges, ShotEdgeOutOfRange, OddShotWeight, ShotWeightTooLarge, ShotWeightTooSmall}
 use Rattle.fb_records.specs.Records.{Ending, still_open, refused, Records, Judged}
 use Rattle.fb_records.specs.Lines.{without_return, after_first, records_by_lines, prefix_by_lines}
 
@@ -88,7 +88,7 @@ pair_fault edge_count pair =
     if nat_le edge_count pair.0 then Some ShotEdgeOutOfRange
     else (if nat_eq (unsigned_abs pair.1 % 2) 1 then Some OddShotWeight
     else (if int_lt (pos most_weight) pair.1 then Some ShotWeightTooLarge
-    else (if int_lt pair.1 (pos 0) then Some NegativeShotWeight else None)))
+    else (if int_lt pair.1 (neg_ℤ (pos most_weight)) then Some ShotWeightTooSmall else None)))
 
 -- why the first entry that is refused is
 abbrev pub first_fault : {A : Type 0} → (A → Option Kind) → List A → Option Kind
@@ -100,22 +100,18 @@ abbrev pub changes_fault : (edge_count : ℕ) → List ℕ → List (ℕ × ℤ)
 changes_fault edge_count erasures pairs =
     option_or (first_fault (erasure_fault edge_count) erasures) (first_fault (pair_fault edge_count) pairs)
 
--- a pair as a change
-abbrev pub change_by : ℕ × ℤ → ℕ × ℕ
-change_by pair = (pair.0, unsigned_abs pair.1)
-
 -- the changes as they are listed: the pairs, and then each erased edge, which has weight 0
-abbrev pub listed_changes : List ℕ → List (ℕ × ℤ) → List (ℕ × ℕ)
-listed_changes erasures pairs = map change_by pairs ++ map (λ edge. (edge, 0)) erasures
+abbrev pub listed_changes : List ℕ → List (ℕ × ℤ) → List (ℕ × ℤ)
+listed_changes erasures pairs = pairs ++ map (λ edge. (edge, pos 0)) erasures
 
 -- the edges of the graph that are listed, rising, each with the weight that is listed last for it
-abbrev pub last_changes : (edge_count : ℕ) → List (ℕ × ℕ) → List (ℕ × ℕ)
+abbrev pub last_changes : (edge_count : ℕ) → List (ℕ × ℤ) → List (ℕ × ℤ)
 last_changes edge_count listed =
-    map (λ edge. (edge, weight_by (reverse listed) edge 0))
+    map (λ edge. (edge, weight_by (reverse listed) edge (pos 0)))
     (filter (is_in (map (λ change. change.0) listed)) (range_with_len 0 edge_count))
 
 -- the edges that weigh otherwise by a value, rising, each with its weight
-abbrev pub changes_in : (edge_count : ℕ) → Data → Result (List (ℕ × ℕ)) Kind
+abbrev pub changes_in : (edge_count : ℕ) → Data → Result (List (ℕ × ℤ)) Kind
 changes_in edge_count d =
     with_option (entries_in natural_of (get (codes "erasures") d)) NotChanges (λ erasures.
     with_option (entries_in pair_of (get (codes "dynamic_weights") d)) NotChanges (λ pairs.
@@ -126,7 +122,7 @@ abbrev pub shot_in : DecodingGraph → Data → Result ShotValue Kind
 shot_in g d =
     with_result (defects_in g d) (λ defects.
     with_result (changes_in (length g.edges) d) (λ changes.
-    Ok (record { defects = defects; changes = changes })))
+    Ok (record { defects = defects; changes = changes; turned = turned_by g changes })))
 
 -- ---- a line
 

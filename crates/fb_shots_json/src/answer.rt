@@ -27,8 +27,8 @@ pub enum Kind {
     OddShotWeight,
     /// The weight that an edge gets is above 1,073,741,824.
     ShotWeightTooLarge,
-    /// The weight that an edge gets is below 0.
-    NegativeShotWeight,
+    /// The weight that an edge gets is below -1,073,741,824.
+    ShotWeightTooSmall,
 }
 
 impl Kind {
@@ -47,7 +47,7 @@ impl Kind {
             Kind::ShotEdgeOutOfRange => "ShotEdgeOutOfRange",
             Kind::OddShotWeight => "OddShotWeight",
             Kind::ShotWeightTooLarge => "ShotWeightTooLarge",
-            Kind::NegativeShotWeight => "NegativeShotWeight",
+            Kind::ShotWeightTooSmall => "ShotWeightTooSmall",
         }
     }
 }

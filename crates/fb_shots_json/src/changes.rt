@@ -5,21 +5,18 @@ ghost use Rattle.fb_graph.specs.Limits.{AreChanges, IsChange};
 ghost use Rattle.serde_json.specs.Find.{get};
 ghost use Rattle.serde_json.specs.View.{view, items_view};
 ghost use Rattle.fb_json.specs.JsonText.{natural_of};
-ghost use Rattle.fb_shots_json.specs.TextJson.{change_by, changes_fault, changes_in, each_of, entries_in, erasure_fault, first_fault, last_changes, listed_changes, pair_fault, pair_of};
+ghost use Rattle.fb_shots_json.specs.TextJson.{changes_fault, changes_in, each_of, entries_in, erasure_fault, first_fault, last_changes, listed_changes, pair_fault, pair_of};
 ghost use Rattle.fb_records.specs.Steps.{IfRefused};
 
 use crate::answer::Kind;
 use crate::entries::naturals;
-use fb_graph::Graph;
+use fb_graph::{Graph, MOST_WEIGHT};
 use fb_records::{NoMemory, Stop};
 use serde_json::Value;
 use std::alloc::Global;
 
-/// The greatest weight of an edge.
-const MOST_WEIGHT: i128 = 1 << 30;
-
-/// The edges that weigh otherwise by a value, rising, each with its weight.
-pub fn changes(alloc: Global, graph: &Graph, value: &Value) -> Result<Vec<(u32, u64)>, Stop<Kind>>
+/// The edges that weigh otherwise by a value, rising, each with its weight, of either sign.
+pub fn changes(alloc: Global, graph: &Graph, value: &Value) -> Result<Vec<(u32, i64)>, Stop<Kind>>
     ensures ok { IfOk result (λ v. changes_in (length graph.now.edges) (view value.now) ≡ Ok v.items) }
     ensures changes { IfOk result (λ v. AreChanges (length graph.now.edges) v.items) }
     ensures refused { IfErr result (IfRefused (λ kind. changes_in (length graph.now.edges) (view value.now) ≡ Err kind)) }
@@ -108,10 +105,10 @@ fn pair_fault(graph: &Graph, pair: (u64, i128)) -> Option<Kind>
         Some(Kind::ShotEdgeOutOfRange)
     } else if weight.unsigned_abs() % 2 == 1 {
         Some(Kind::OddShotWeight)
-    } else if weight > MOST_WEIGHT {
+    } else if weight > i128::from(MOST_WEIGHT) {
         Some(Kind::ShotWeightTooLarge)
-    } else if weight < 0 {
-        Some(Kind::NegativeShotWeight)
+    } else if weight < -i128::from(MOST_WEIGHT) {
+        Some(Kind::ShotWeightTooSmall)
     } else {
         None
     }
@@ -152,13 +149,13 @@ fn changes_fault(graph: &Graph, erasures: &[u64], pairs: &[(u64, i128)]) -> Opti
 }
 
 /// A pair as a change.
-fn change_by(graph: &Graph, pair: (u64, i128)) -> (u32, u64)
-    requires { IsChange (length graph.now.edges) (change_by pair) }
-    ensures { result ≡ change_by pair }
+fn change_by(graph: &Graph, pair: (u64, i128)) -> (u32, i64)
+    requires { IsChange (length graph.now.edges) pair }
+    ensures { result ≡ pair }
 {
     graph.limits();
     let (edge, weight) = pair;
-    (edge as u32, weight.unsigned_abs() as u64)
+    (edge as u32, weight as i64)
 }
 
 /// The changes as they are listed: the pairs, and then each erased edge, which has weight 0.
@@ -167,7 +164,7 @@ fn listed_changes(
     graph: &Graph,
     erasures: &[u64],
     pairs: &[(u64, i128)],
-) -> Result<Vec<(u32, u64)>, NoMemory>
+) -> Result<Vec<(u32, i64)>, NoMemory>
     requires { changes_fault (length graph.now.edges) erasures.now pairs.now ≡ None }
     ensures listed { IfOk result (λ v. v.items ≡ listed_changes erasures.now pairs.now) }
 {
@@ -183,7 +180,7 @@ fn listed_changes(
 }
 
 /// Of the changes of each edge the last one, the edges rising. A list that rises takes one pass.
-fn keep_last(changes: &mut Vec<(u32, u64)>) -> Result<(), NoMemory>
+fn keep_last(changes: &mut Vec<(u32, i64)>) -> Result<(), NoMemory>
     ensures last { OnOk result ((edge_count : ℕ) → All (λ change. change.0 < edge_count) changes.old.items
         → changes.new.items ≡ last_changes edge_count changes.old.items) }
     ensures kept { OnOk result ((edge_count : ℕ) → All (IsChange edge_count) changes.old.items

@@ -9,8 +9,7 @@ ghost use Rattle.fb_records.specs.Steps.{IfRefused};
 use crate::answer::Kind;
 use crate::changes::changes;
 use crate::entries::{defects, naturals};
-use crate::shot::ListedShot;
-use fb_graph::Graph;
+use fb_graph::{Graph, Shot};
 use fb_json::{MOST_TEXT_BYTES, NoValue, read_value};
 use fb_records::{Stop, without_return};
 use serde_json::Value;
@@ -35,14 +34,14 @@ fn defects_in(alloc: Global, graph: &Graph, value: &Value) -> Result<Vec<u32>, S
 }
 
 /// The shot that a value says.
-fn shot_in(alloc: Global, graph: &Graph, value: &Value) -> Result<ListedShot, Stop<Kind>>
+fn shot_in(alloc: Global, graph: &Graph, value: &Value) -> Result<Shot, Stop<Kind>>
     ensures ok { IfOk result (λ shot. shot_in graph.now (view value.now) ≡ Ok shot) }
     ensures shot { IfOk result (IsShot graph.now) }
     ensures refused { IfErr result (IfRefused (λ kind. shot_in graph.now (view value.now) ≡ Err kind)) }
 {
     let defects = defects_in(alloc, graph, value)?;
     let changes = changes(alloc, graph, value)?;
-    Ok(ListedShot::new(defects, changes))
+    Ok(Shot::with_changes(graph, defects, changes)?)
 }
 
 /// Whether a line has more bytes than one that isn't blank may have.
@@ -53,7 +52,7 @@ pub fn is_too_long(line: &[u8]) -> bool
 }
 
 /// The shot of a line that isn't blank.
-pub fn shot_of_line(alloc: Global, graph: &Graph, line: &[u8]) -> Result<ListedShot, Stop<Kind>>
+pub fn shot_of_line(alloc: Global, graph: &Graph, line: &[u8]) -> Result<Shot, Stop<Kind>>
     ensures ok { IfOk result (λ shot. shot_of_line graph.now line.now ≡ Ok shot) }
     ensures shot { IfOk result (IsShot graph.now) }
     ensures refused { IfErr result (IfRefused (λ kind. shot_of_line graph.now line.now ≡ Err kind)) }

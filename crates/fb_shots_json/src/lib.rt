@@ -8,9 +8,7 @@ mod entries;
 mod judging;
 mod laws;
 mod reader;
-mod shot;
 
 pub use answer::Kind;
 pub use laws::goes_on_json;
 pub use reader::RecordsJson;
-pub use shot::ListedShot;

@@ -12,8 +12,7 @@ ghost use Rattle.fb_shots_json.specs.InternalAnswers.{AnswersJson};
 
 use crate::answer::Kind;
 use crate::judging::{is_too_long, shot_of_line};
-use crate::shot::ListedShot;
-use fb_graph::Graph;
+use fb_graph::{Graph, Shot};
 use fb_records::{Found, Next, NoMemory, Pending, Stop};
 use std::alloc::Global;
 use std::marker::Model;
@@ -85,7 +84,7 @@ impl<'a> RecordsJson<'a> {
 
     /// Reads the first record of the bytes that no result has used. A shot uses up its line and the blank lines
     /// before it, and nothing else uses any byte.
-    pub fn next(&mut self) -> Result<Next<ListedShot, Kind>, NoMemory>
+    pub fn next(&mut self) -> Result<Next<Shot, Kind>, NoMemory>
         ensures answer { IfOk result (λ a. a ≡ answer_of (reading records_json prefix_json self.old)) }
         ensures meaning { IfOk result (Answers records_json prefix_json after_record self.old self.new) }
         ensures graph { self.new.subject ≡ self.old.subject }
@@ -120,7 +119,7 @@ fn advance(
     place: &mut Place,
     rest: &[u8],
     finished: bool,
-) -> Result<Found<ListedShot>, Stop<Kind>>
+) -> Result<Found<Shot>, Stop<Kind>>
     requires { IsPlace graph.now rest.now place.old.line place.old.seen place.old.is_blank }
     ensures ok { IfOk result (λ found. AnswersJson graph.now rest.now finished (drop (used_of found) rest.now) (answer_at found)
         × IsPlace graph.now (drop (used_of found) rest.now) place.new.line place.new.seen place.new.is_blank) }

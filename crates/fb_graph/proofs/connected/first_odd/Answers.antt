@@ -38,7 +38,7 @@ returns-clause-first g c =
     )
     (first_from_least (g.S.Scope.problem c.parts.inside.scope) c.parts.inside.labels.items c.parts.invariant.limits
     c.parts.invariant.labelling c.args.shot.now.defects c.parts.inside.bounded.items c.count_defects.new.odd
-    c.parts.invariant.boundary counts shot _ (least_from_reduce _))
+    c.parts.invariant.boundary counts shot.rising shot.real _ (least_from_reduce _))
 
 pub returns-clause-closed : goal.returns-clause-closed
 returns-clause-closed g c =

@@ -1,4 +1,5 @@
-use Rattle.fb_graph.proofs.ShotGraphs.{same_first_odd, same_flips, shot_graph_is_graph}
+use Rattle.fb_graph.proofs.ShotGraphs.{same_first_odd, same_flips}
+use Rattle.fb_graph.proofs.ShiftedShots.{shot_graph_is_graph}
 use Rattle.fb_graph.proofs.laws.weights_of_shots.Goals as goal
 
 pub returns-clause-graph : goal.returns-clause-graph
