@@ -1,5 +1,6 @@
 -- The text of a check of a report: a line for each shot that has a row, between its head and its last line.
 use Rattle.std.specs.Prelude.{ℕ, ◌+◌, ◌==◌, ◌&&◌, if◌then◌else◌, List, [], ◌∷◌, ◌++◌, map, count_by, codes, decimal}
+use Rattle.std.specs.Fmt.{signed_decimal}
 use Rattle.std.specs.List.{AllZip}
 use Rattle.fb_graph.specs.Limits.{DecodingGraph, ShotValue}
 use Rattle.fb_graph.specs.declared.parts.Row.{Row}
@@ -15,7 +16,7 @@ bad_count verdicts = count_by is_bad verdicts
 
 -- the line of shot k
 unfoldable pub verdict_line : ℕ → Verdict → List ℕ
-verdict_line k v = line (codes "shot") (decimal k ∷ verdict_name v ∷ map decimal (verdict_numbers v))
+verdict_line k v = line (codes "shot") (decimal k ∷ verdict_name v ∷ map signed_decimal (verdict_numbers v))
 
 -- the lines of shots one after another, the first of which is shot k
 abbrev pub verdict_lines : ℕ → List Verdict → List ℕ

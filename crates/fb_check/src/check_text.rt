@@ -1,6 +1,7 @@
 //! The text of a check of a report.
 
 ghost use Rattle.std.specs.Prelude.{◌≡◌, [], ◌∷◌, codes, decimal, OnOk, OnErr};
+ghost use Rattle.std.specs.Fmt.{signed_decimal};
 ghost use Rattle.fb_ports.specs.Causes.{Appends, AppendsPrefix, HasCause};
 ghost use Rattle.fb_report.specs.Texts.{line};
 ghost use Rattle.fb_check.specs.Checks.{check_head, check_last, verdict_line};
@@ -29,7 +30,7 @@ pub fn put_verdict<S: Sink>(sink: &mut S, shot: u32, verdict: Verdict) -> Result
     match verdict.numbers() {
         Numbers::Nothing => put_bare(sink, shot, verdict.name()),
         Numbers::One(number) => put_number(sink, shot, verdict.name(), number),
-        Numbers::Two(weight, sum) => put_sums(sink, shot, verdict.name(), weight, sum),
+        Numbers::Two(first, second) => put_two(sink, shot, verdict.name(), first, second),
     }
 }
 
@@ -62,26 +63,26 @@ fn put_number<S: Sink>(sink: &mut S, shot: u32, name: &str, number: u64) -> Resu
     )
 }
 
-/// Puts the line of a shot whose verdict has a weight and a sum.
-fn put_sums<S: Sink>(
+/// Puts the line of a shot whose verdict has two numbers: a weight or a base, and a sum.
+fn put_two<S: Sink>(
     sink: &mut S,
     shot: u32,
     name: &str,
-    weight: u64,
-    sum: u128,
+    first: i128,
+    second: i128,
 ) -> Result<(), Failed>
     ensures all { OnOk result (Appends (S.taken sink.old) (S.taken sink.new)
-        (line (codes "shot") (decimal shot ∷ name.now ∷ decimal weight ∷ decimal sum ∷ []))) }
+        (line (codes "shot") (decimal shot ∷ name.now ∷ signed_decimal first ∷ signed_decimal second ∷ []))) }
     ensures prefix { OnErr result (AppendsPrefix (S.taken sink.old) (S.taken sink.new)
-        (line (codes "shot") (decimal shot ∷ name.now ∷ decimal weight ∷ decimal sum ∷ []))) }
+        (line (codes "shot") (decimal shot ∷ name.now ∷ signed_decimal first ∷ signed_decimal second ∷ []))) }
     ensures cause { HasCause (S.faults sink.old) (S.faults sink.new) result }
 {
     let mut one = Buffer::new();
     let mut two = Buffer::new();
     let mut three = Buffer::new();
     let shot = one.format(shot).as_bytes();
-    let weight = two.format(weight).as_bytes();
-    let sum = three.format(sum).as_bytes();
+    let first = two.format(first).as_bytes();
+    let second = three.format(second).as_bytes();
     put_parts(
         sink,
         &[
@@ -90,9 +91,9 @@ fn put_sums<S: Sink>(
             b" ",
             name.as_bytes(),
             b" ",
-            weight,
+            first,
             b" ",
-            sum,
+            second,
             b"\n",
         ],
     )

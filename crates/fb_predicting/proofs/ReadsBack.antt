@@ -24,7 +24,7 @@ places observables [] = refl
 places observables (row ∷ rows) = ap (λ l. ones_from 0 (observed_bits observables row) ∷ l) (places observables rows)
 
 as_many : (observables : List (List ℕ)) (row : Row) → length (observed_bits observables row) ≡ length observables
-as_many observables (Best edges weight cuts) = length-map observables (λ list. is_odd_count (is_in list) edges)
+as_many observables (Best edges base weight cuts) = length-map observables (λ list. is_odd_count (is_in list) edges)
 as_many observables (Odd vertex) = length-map observables (λ list. false)
 
 all_as_many : (observables : List (List ℕ)) (rows : List Row) → All (λ bits. length bits ≡ length observables) (map (observed_bits observables) rows)

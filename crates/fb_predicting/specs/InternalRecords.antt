@@ -1,5 +1,5 @@
 -- The records of a report's rows, put while its lines are read.
-use Rattle.std.specs.Prelude.{ℕ, ◌≡◌, List, [], count_by}
+use Rattle.std.specs.Prelude.{pos, ℕ, ◌≡◌, List, [], count_by}
 use Rattle.fb_graph.specs.declared.parts.Row.TheVariants as row
 use Rattle.fb_inputs.specs.Judging.{Holds, IsReportText, Named}
 use Rattle.fb_predict.specs.Codings.{coded}
@@ -14,7 +14,7 @@ use Rattle.fb_verify.specs.declared.reports.Report.{Report}
 
 -- what a line adds: the edges of a row settle its record, and so does a row without a correction
 abbrev pub record_at : Coding → List (List ℕ) → Line → List ℕ
-record_at to observables (line.Edges edges) = coded to (observed_bits observables (row.Best edges 0 []))
+record_at to observables (line.Edges edges) = coded to (observed_bits observables (row.Best edges (pos 0) (pos 0) []))
 record_at to observables (line.Odd shot vertex) = coded to (observed_bits observables (row.Odd vertex))
 record_at to observables said = []
 

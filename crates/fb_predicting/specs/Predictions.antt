@@ -15,7 +15,7 @@ predictions to observables rows = flat_map (λ row. coded to (observed_bits obse
 
 -- the row is that of a shot without a correction
 abbrev pub is_odd_row : Row → Bool
-is_odd_row (row.Best edges weight cuts) = false
+is_odd_row (row.Best edges base weight cuts) = false
 is_odd_row (row.Odd vertex) = true
 
 -- why the command ends when all is written: whether some row is odd

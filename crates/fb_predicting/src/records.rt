@@ -84,15 +84,12 @@ fn put_record(
     ensures err { IfErr result (λ e. e ≡ NoMemory) }
 {
     let row = match said {
-        Line::Edges(edges) => {
-            let weight = 0;
-            let cuts = CutList::from_vec(Vec::new(alloc));
-            Row::Best {
-                edges,
-                weight,
-                cuts,
-            }
-        }
+        Line::Edges(edges) => Row::Best {
+            edges,
+            base: 0,
+            weight: 0,
+            cuts: CutList::from_vec(Vec::new(alloc)),
+        },
         Line::Odd(_, vertex) => Row::Odd(vertex),
         _ => return Ok(()),
     };

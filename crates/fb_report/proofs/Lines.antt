@@ -1,12 +1,13 @@
 -- The lines of a report, put piece by piece.
-use Rattle.std.proofs.Common.{◌≡◌, ℕ, ◌+◌, ◌<◌, ◌≤◌, List, [], ◌∷◌, ◌++◌, Option, length, take, map, get_or, refl, sym, ap, ◌∙◌, append_assoc, append-nil, subst, codes, decimal}
+use Rattle.std.proofs.Common.{◌≡◌, ℕ, ℤ, ◌+◌, ◌<◌, ◌≤◌, List, [], ◌∷◌, ◌++◌, Option, length, take, map, get_or, refl, sym, ap, ◌∙◌, append_assoc, append-nil, subst, codes, decimal}
+use Rattle.std.specs.Fmt.{signed_decimal}
 use Rattle.std.proofs.KnownBytes.{Appends-trans}
 use Rattle.std.proofs.lemmas.List.{take_all}
 use Rattle.fb_ports.specs.Causes.{Appends, AppendsPrefix, concat}
 use Rattle.fb_ports.proofs.Onward.{parts_onward, parts_prefix, prefix_second, prefix_first}
 use Rattle.fb_graph.specs.declared.parts.Cut.{Cut}
 use Rattle.fb_graph.specs.declared.parts.Row.TheVariants.{Best}
-use Rattle.fb_report.specs.Texts.{line, line_end, cut_line, row_text}
+use Rattle.fb_report.specs.Texts.{base_line, line, line_end, cut_line, row_text, weight_line}
 
 -- a number with the space before it, as the writer puts it
 abbrev pub spaced : ℕ → List ℕ
@@ -57,11 +58,22 @@ newline_prefix a b c ns i le p q = subst (AppendsPrefix a c) (sym (line_end-numb
 abbrev pub opening : ℕ → List ℕ
 opening k = codes "shot " ++ (decimal k ++ codes "\nedges")
 
+-- the first lines of a correction's text, in the parts in which they are put
+pub chosen-parts : (k : ℕ) (edges : List ℕ)
+    → line (codes "shot") (decimal k ∷ []) ++ line (codes "edges") (map decimal edges) ≡ opening k ++ line_end (map decimal edges)
+chosen-parts k edges = simp append_assoc
+
+-- the lines of a base and a weight, in the parts in which they are put
+pub sums-parts : (base weight : ℤ) → base_line base ++ weight_line weight
+    ≡ concat (codes "base " ∷ signed_decimal base ∷ codes "\nweight " ∷ signed_decimal weight ∷ codes "\n" ∷ [])
+sums-parts base weight = simp append_assoc
+
 -- the text of a correction, in the parts in which it is put
-pub row_text-best : (k : ℕ) (edges : List ℕ) (weight : ℕ) (cuts : List Cut) → row_text k (Best edges weight cuts)
-    ≡ opening k ++ (line_end (map decimal edges) ++ (line (codes "weight") (decimal weight ∷ []) ++ concat (map cut_line cuts)))
+pub row_text-best : (k : ℕ) (edges : List ℕ) (base weight : ℤ) (cuts : List Cut) → row_text k (Best edges base weight cuts)
+    ≡ (line (codes "shot") (decimal k ∷ []) ++ line (codes "edges") (map decimal edges))
+    ++ ((base_line base ++ weight_line weight) ++ concat (map cut_line cuts))
 unfolding row_text
-row_text-best k edges weight cuts = simp append_assoc
+row_text-best k edges base weight cuts = simp append_assoc
 
 -- a cut's line before its vertices, as the writer puts it
 abbrev pub cut_opening : ℕ → List ℕ

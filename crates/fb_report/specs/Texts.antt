@@ -1,6 +1,7 @@
 -- The text of a report, line by line. A line is words parted by one space, and ends by a newline; no line ends with a
--- space. A number is a word of decimal digits without sign or leading zero.
-use Rattle.std.specs.Prelude.{ℕ, ◌+◌, Bool, if◌then◌else◌, List, [], ◌∷◌, ◌++◌, map, codes, decimal}
+-- space. A number is a word of decimal digits without leading zero; a negative one has a minus sign before them.
+use Rattle.std.specs.Prelude.{ℕ, ℤ, ◌+◌, Bool, if◌then◌else◌, List, [], ◌∷◌, ◌++◌, map, codes, decimal}
+use Rattle.std.specs.Fmt.{signed_decimal}
 use Rattle.std.specs.List.{concat}
 use Rattle.fb_graph.specs.declared.parts.Cut.{Cut}
 use Rattle.fb_graph.specs.declared.parts.Row.{Row}
@@ -17,20 +18,28 @@ line w ws = w ++ line_end ws
 
 -- the first line: what the text is, and the version of its format
 unfoldable pub head_text : List ℕ
-head_text = line (codes "fusion-report") (codes "1" ∷ [])
+head_text = line (codes "fusion-report") (codes "2" ∷ [])
 
 -- a weighted odd cut (Edmonds and Johnson 1973): its value, and then its vertices
 abbrev pub cut_line : Cut → List ℕ
 cut_line c = line (codes "cut") (decimal c.value ∷ map decimal c.vertices)
 
--- the row of a shot: the edges of its correction, their weight and the cuts, each in lines of its own; or one line, if
--- there is no correction
+-- the lines of a row's base and of its weight
+abbrev pub base_line : ℤ → List ℕ
+base_line base = line (codes "base") (signed_decimal base ∷ [])
+
+abbrev pub weight_line : ℤ → List ℕ
+weight_line weight = line (codes "weight") (signed_decimal weight ∷ [])
+
+-- the row of a shot: the edges of its correction, the base, the weight and the cuts, each in lines of its own; or one
+-- line, if there is no correction
 unfoldable pub row_text : ℕ → Row → List ℕ
-row_text k (Best edges weight cuts) =
+row_text k (Best edges base weight cuts) =
     line (codes "shot") (decimal k ∷ [])
     ++ (line (codes "edges") (map decimal edges)
-    ++ (line (codes "weight") (decimal weight ∷ [])
-    ++ concat (map cut_line cuts)))
+    ++ (base_line base
+    ++ (weight_line weight
+    ++ concat (map cut_line cuts))))
 row_text k (Odd v) = line (codes "shot") (decimal k ∷ codes "odd" ∷ decimal v ∷ [])
 
 -- the rows of shots one after another, the first of which is shot k

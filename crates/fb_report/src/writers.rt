@@ -1,14 +1,14 @@
-ghost use Rattle.std.specs.Prelude.{◌≡◌, if◌then◌else◌, codes, OnOk, OnErr};
-ghost use Rattle.fb_ports.specs.Causes.{Appends, AppendsPrefix, HasCause};
-ghost use Rattle.fb_report.specs.Texts.{head_text, row_text, trace_line, done_text};
-ghost use Rattle.fb_graph.specs.declared.parts.Row.TheVariants.{Best, Odd};
+ghost use Rattle.std.specs.Prelude.{◌≡◌, [], ◌∷◌, ◌++◌, if◌then◌else◌, codes, decimal, map, OnOk, OnErr};
+ghost use Rattle.fb_ports.specs.Causes.{Appends, AppendsPrefix, HasCause, concat};
+ghost use Rattle.fb_report.specs.Texts.{base_line, cut_line, done_text, head_text, line, line_end, row_text, trace_line, weight_line};
+ghost use Rattle.fb_graph.specs.declared.parts.Row.TheVariants.{Odd};
 
 use crate::pieces::{put_cuts, put_line_end, put_number};
 use fb_graph::{Cut, Row};
 use fb_ports::{Failed, Sink, put_all, put_parts};
 use itoa::Buffer;
 
-/// Puts the first line of a report, `fusion-report 1`.
+/// Puts the first line of a report, `fusion-report 2`.
 ///
 /// After [`Failed`], here and in the other writers, the sink has taken a prefix of the text.
 #[tactic(auto, unfolding(crate::specs::Texts::head_text))]
@@ -17,7 +17,7 @@ pub fn write_head<S: Sink>(sink: &mut S) -> Result<(), Failed>
     ensures prefix { OnErr result (AppendsPrefix (S.taken sink.old) (S.taken sink.new) head_text) }
     ensures cause { HasCause (S.faults sink.old) (S.faults sink.new) result }
 {
-    put_all(sink, b"fusion-report 1\n")
+    put_all(sink, b"fusion-report 2\n")
 }
 
 /// The first word of a trace line.
@@ -104,28 +104,49 @@ pub fn write_done<S: Sink>(
     )
 }
 
-/// Puts the text of a correction: its lines, and then the lines of its cuts.
-#[tactic(auto, unfolding(crate::specs::Texts::row_text))]
-fn put_best<S: Sink>(
+/// Puts the first two lines of a correction: that of its shot, and that of its edges.
+fn put_chosen<S: Sink>(sink: &mut S, shot: u32, edges: &[u32]) -> Result<(), Failed>
+    ensures all { OnOk result (Appends (S.taken sink.old) (S.taken sink.new)
+        (line (codes "shot") (decimal shot ∷ []) ++ line (codes "edges") (map decimal edges.now))) }
+    ensures prefix { OnErr result (AppendsPrefix (S.taken sink.old) (S.taken sink.new)
+        (line (codes "shot") (decimal shot ∷ []) ++ line (codes "edges") (map decimal edges.now))) }
+    ensures cause { HasCause (S.faults sink.old) (S.faults sink.new) result }
+{
+    let Ok(()) = put_number(sink, b"shot ", u64::from(shot), b"\nedges") else {
+        return Err(Failed);
+    };
+    put_line_end(sink, edges)
+}
+
+/// Puts the lines of a correction's base and weight.
+fn put_sums<S: Sink>(sink: &mut S, base: i128, weight: i128) -> Result<(), Failed>
+    ensures all { OnOk result (Appends (S.taken sink.old) (S.taken sink.new)
+        (base_line base ++ weight_line weight)) }
+    ensures prefix { OnErr result (AppendsPrefix (S.taken sink.old) (S.taken sink.new)
+        (base_line base ++ weight_line weight)) }
+    ensures cause { HasCause (S.faults sink.old) (S.faults sink.new) result }
+{
+    let mut one = Buffer::new();
+    let mut two = Buffer::new();
+    let base = one.format(base).as_bytes();
+    let weight = two.format(weight).as_bytes();
+    put_parts(sink, &[b"base ", base, b"\nweight ", weight, b"\n"])
+}
+
+/// Puts the further lines of a correction: those of its base and weight, and then those of its cuts.
+fn put_certificate<S: Sink>(
     sink: &mut S,
-    shot: u64,
-    edges: &[u32],
-    weight: u64,
+    base: i128,
+    weight: i128,
     cuts: &[Cut],
 ) -> Result<(), Failed>
     ensures all { OnOk result (Appends (S.taken sink.old) (S.taken sink.new)
-        (row_text shot (Best edges.now weight cuts.now))) }
+        ((base_line base ++ weight_line weight) ++ concat (map cut_line cuts.now))) }
     ensures prefix { OnErr result (AppendsPrefix (S.taken sink.old) (S.taken sink.new)
-        (row_text shot (Best edges.now weight cuts.now))) }
+        ((base_line base ++ weight_line weight) ++ concat (map cut_line cuts.now))) }
     ensures cause { HasCause (S.faults sink.old) (S.faults sink.new) result }
 {
-    let Ok(()) = put_number(sink, b"shot ", shot, b"\nedges") else {
-        return Err(Failed);
-    };
-    let Ok(()) = put_line_end(sink, edges) else {
-        return Err(Failed);
-    };
-    let Ok(()) = put_number(sink, b"weight ", weight, b"\n") else {
+    let Ok(()) = put_sums(sink, base, weight) else {
         return Err(Failed);
     };
     put_cuts(sink, cuts)
@@ -146,9 +167,9 @@ fn put_odd<S: Sink>(sink: &mut S, shot: u32, vertex: u32) -> Result<(), Failed>
 }
 
 /// Puts the row of a shot, numbered from 0. The row of a correction is the line `shot K`, the line
-/// `edges E1 E2 ..` with its edges, the line `weight W` and, for each of its cuts (Edmonds and Johnson
-/// 1973), a line `cut Y V1 V2 ..` with the cut's value and vertices. The row of a shot that has no
-/// correction is the one line `shot K odd V`.
+/// `edges E1 E2 ..` with its edges, the line `base B` with the sum of all negative weights, the line
+/// `weight W` and, for each of its cuts (Edmonds and Johnson 1973), a line `cut Y V1 V2 ..` with the
+/// cut's value and vertices. The row of a shot that has no correction is the one line `shot K odd V`.
 pub fn write_row<S: Sink>(sink: &mut S, shot: u32, row: &Row) -> Result<(), Failed>
     ensures all { OnOk result (Appends (S.taken sink.old) (S.taken sink.new) (row_text shot row.now)) }
     ensures prefix { OnErr result (AppendsPrefix (S.taken sink.old) (S.taken sink.new) (row_text shot row.now)) }
@@ -157,15 +178,15 @@ pub fn write_row<S: Sink>(sink: &mut S, shot: u32, row: &Row) -> Result<(), Fail
     match row {
         Row::Best {
             edges,
+            base,
             weight,
             cuts,
-        } => put_best(
-            sink,
-            u64::from(shot),
-            edges.as_slice(),
-            *weight,
-            cuts.as_slice(),
-        ),
+        } => {
+            let Ok(()) = put_chosen(sink, shot, edges.as_slice()) else {
+                return Err(Failed);
+            };
+            put_certificate(sink, *base, *weight, cuts.as_slice())
+        }
         Row::Odd(vertex) => put_odd(sink, shot, *vertex),
     }
 }

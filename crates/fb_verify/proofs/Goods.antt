@@ -1,17 +1,18 @@
 -- A row is good just where it is right.
-use Rattle.std.proofs.Common.{ℕ, ◌+◌, ◌<◌, ◌≡◌, ◌≢◌, ◌==◌, not, nat_lt, cond, Bool, true, false, List, [], ◌∷◌, length, get_or, All, Option, Some, None, refl, sym, ap, ◌∙◌, arith}
+use Rattle.std.proofs.Common.{ℕ, ℤ, ◌+◌, ◌<◌, ◌≡◌, ◌≢◌, ◌==◌, not, nat_lt, cond, Bool, true, false, List, [], ◌∷◌, length, get_or, All, Option, Some, None, refl, sym, ap, ◌∙◌, arith}
 use Rattle.std.specs.List.{find}
 use Rattle.std.specs.List.Sorted.{IsStrictlyIncreasing}
 use Rattle.std.specs.Option.{option_map, option_or, is_some}
-use Rattle.std.specs.Ordering.{nat_cmp, is_lt}
+use Rattle.std.specs.Ordering.{int_eq, nat_cmp, is_lt}
 use Rattle.std.specs.Cmp.Lexicographic.{slice_cmp}
 use Rattle.std.specs.declared.cmp.Ordering.{Ordering}
 use Rattle.std.specs.declared.cmp.Ordering.TheVariants.{Less, Equal, Greater}
+use Rattle.std.proofs.lemmas.Bool.Decides.{Decides-int_eq}
 use Rattle.std.proofs.lemmas.Bool.{eqb-true, false≢true, lt-ltb, ltb-true, not-false, and_from, not_from_false}
 use Rattle.std.proofs.lemmas.List.Elements.{All-cons, All-head, All-nil, All-tail}
 use Rattle.fb_graph.specs.Certificate.{AreDistinct, AreRising, IsBefore, IsOddCut}
 use Rattle.fb_graph.specs.Limits.{DecodingGraph, ShotValue}
-use Rattle.fb_graph.specs.ShotGraphs.{shot_problem}
+use Rattle.fb_graph.specs.Signs.{shifted_defects, solved_problem}
 use Rattle.fb_graph.specs.Parity.{is_in, is_odd_count}
 use Rattle.fb_graph.specs.Problem.{Problem}
 use Rattle.fb_graph.specs.declared.parts.Cut.{Cut}
@@ -36,11 +37,11 @@ where_none : (b : Bool) (v : Verdict) → fault_if b v ≡ None → b ≡ false
 where_none true v e = cc
 where_none false v e = refl
 
-pub two_none : (f : ℕ → ℕ → Verdict) (a b : ℕ) → fault_of_two f a b ≡ None → a ≡ b
-two_none f a b e = step (a == b) refl e
+pub two_none : (f : ℤ → ℤ → Verdict) (a b : ℤ) → fault_of_two f a b ≡ None → a ≡ b
+two_none f a b e = step (int_eq a b) refl e
   where
-    step : (t : Bool) → (a == b) ≡ t → cond t None (Some (f a b)) ≡ None → a ≡ b
-    step true h e = eqb-true a b h
+    step : (t : Bool) → int_eq a b ≡ t → cond t None (Some (f a b)) ≡ None → a ≡ b
+    step true h e = (Decides-int_eq a b).0 h
     step false h e = cc
 
 -- no fault is `Good`
@@ -56,8 +57,8 @@ where_bad : (b : Bool) (v : Verdict) → v ≢ Good → fault_if b v ≢ Some Go
 where_bad true v bad e = bad cc
 where_bad false v bad e = cc
 
-pub two_bad : (f : ℕ → ℕ → Verdict) → ((a b : ℕ) → f a b ≢ Good) → (a b : ℕ) → fault_of_two f a b ≢ Some Good
-two_bad f bad a b e = step (a == b) e
+pub two_bad : (f : ℤ → ℤ → Verdict) → ((a b : ℤ) → f a b ≢ Good) → (a b : ℤ) → fault_of_two f a b ≢ Some Good
+two_bad f bad a b e = step (int_eq a b) e
   where
     step : (t : Bool) → cond t None (Some (f a b)) ≡ Some Good → ⊥
     step true e = cc
@@ -70,7 +71,7 @@ cut_bad g shot j before vertices =
     (or_bad (fault_if (is_some (first_fall vertices)) (CutsNotRising j)) _ (where_bad (is_some (first_fall vertices)) (CutsNotRising j) (λ e. cc))
     (or_bad (fault_if (not (is_lt (slice_cmp nat_cmp before vertices))) (CutsNotRising j)) _ (where_bad (not (is_lt (slice_cmp nat_cmp before vertices))) (CutsNotRising j) (λ e. cc))
     (or_bad (option_map CutHoldsVirtual (find (is_in g.virtuals) vertices)) _ (map_bad CutHoldsVirtual (λ k e. cc) (find (is_in g.virtuals) vertices))
-    (or_bad (fault_if (not (is_odd_count (is_in shot.defects) vertices)) (CutEven j)) None (where_bad (not (is_odd_count (is_in shot.defects) vertices)) (CutEven j) (λ e. cc)) (λ e. cc))))))
+    (or_bad (fault_if (not (is_odd_count (is_in (shifted_defects g shot)) vertices)) (CutEven j)) None (where_bad (not (is_odd_count (is_in (shifted_defects g shot)) vertices)) (CutEven j) (λ e. cc)) (λ e. cc))))))
 
 pub cuts_bad : (g : DecodingGraph) (shot : ShotValue) (j : ℕ) (before : List ℕ) (cuts : List Cut) → cuts_fault g shot j before cuts ≢ Some Good
 cuts_bad g shot j before [] = λ e. cc
@@ -136,14 +137,14 @@ before_same a b same (c ∷ cs) before = ap (λ vs. slice_cmp nat_cmp vs c.verti
 
 cut-from_none : (g : DecodingGraph) (shot : ShotValue) (j : ℕ) (before : List ℕ) (c : Cut)
     → cut_fault g shot j before c.vertices ≡ None
-    → IsListed (shot_problem g shot) c × (slice_cmp nat_cmp before c.vertices ≡ Less)
+    → IsListed (solved_problem g shot) c × (slice_cmp nat_cmp before c.vertices ≡ Less)
 cut-from_none g shot j before c none =
     let (empty, others) = or_none (fault_if (length c.vertices == 0) (CutEmpty j)) _ none in
     let (beyond, rest) = or_none (option_map VertexOutOfRange (first_beyond g.vertices c.vertices)) _ others in
     let (fall, rest_2) = or_none (fault_if (is_some (first_fall c.vertices)) (CutsNotRising j)) _ rest in
     let (order, rest_3) = or_none (fault_if (not (is_lt (slice_cmp nat_cmp before c.vertices))) (CutsNotRising j)) _ rest_2 in
     let (virtual, rest_4) = or_none (option_map CutHoldsVirtual (find (is_in g.virtuals) c.vertices)) _ rest_3 in
-    let (even, rest_5) = or_none (fault_if (not (is_odd_count (is_in shot.defects) c.vertices)) (CutEven j)) None rest_4 in
+    let (even, rest_5) = or_none (fault_if (not (is_odd_count (is_in (shifted_defects g shot)) c.vertices)) (CutEven j)) None rest_4 in
     let rising : IsStrictlyIncreasing c.vertices =
     rising-from_fall c.vertices (is_some-none (first_fall c.vertices) (where_none (is_some (first_fall c.vertices)) (CutsNotRising j) fall)) in
     let below = below-from_beyond g.vertices c.vertices (map_none VertexOutOfRange (first_beyond g.vertices c.vertices) beyond) in
@@ -153,8 +154,8 @@ cut-from_none g shot j before c none =
           distinct = distinct_from_rising c.vertices rising;
           real = λ k d less. and_from (nat_lt (get_or c.vertices k d) g.vertices) (not (is_in g.virtuals (get_or c.vertices k d)))
               (lt-ltb (get_or c.vertices k d) g.vertices (below k d less)) (not_from_false (is_in g.virtuals (get_or c.vertices k d)) (real k d less));
-          odd = not-false (is_odd_count (is_in shot.defects) c.vertices)
-              (where_none (not (is_odd_count (is_in shot.defects) c.vertices)) (CutEven j) even);
+          odd = not-false (is_odd_count (is_in (shifted_defects g shot)) c.vertices)
+              (where_none (not (is_odd_count (is_in (shifted_defects g shot)) c.vertices)) (CutEven j) even);
         };
         rising = rising;
       },
@@ -165,13 +166,13 @@ cut-from_none g shot j before c none =
 
 pub cuts-from_none : (g : DecodingGraph) (shot : ShotValue) (j : ℕ) (before : List ℕ) (cuts : List Cut)
     → cuts_fault g shot j before cuts ≡ None
-    → All (IsListed (shot_problem g shot)) cuts × AreRising (as_cut before ∷ cuts)
+    → All (IsListed (solved_problem g shot)) cuts × AreRising (as_cut before ∷ cuts)
 cuts-from_none g shot j before [] none = (All-nil _, (tt, tt))
 cuts-from_none g shot j before (c ∷ cs) none =
     let (here, later) = or_none (cut_fault g shot j before c.vertices) (cuts_fault g shot (j + 1) c.vertices cs) none in
     let (listed, order) = cut-from_none g shot j before c here in
     let (all, rising) = cuts-from_none g shot (j + 1) c.vertices cs later in (
-      All-cons (IsListed (shot_problem g shot)) c cs listed all,
+      All-cons (IsListed (solved_problem g shot)) c cs listed all,
       (order, (before_same (as_cut c.vertices) c refl cs rising.0, rising.1)),
     )
 

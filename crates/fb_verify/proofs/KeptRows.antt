@@ -1,7 +1,7 @@
 -- What the rows of a report keep while it is read: cuts of values of at least 1, and no more rows than lines.
 use Rattle.std.specs.Prelude.{◌==◌, ◌&&◌, nat_lt, if◌then◌else◌, codes, count_by, option_map, option_and_then}
 use Rattle.std.specs.Str.{bytes_eq}
-use Rattle.std.proofs.Common.{◌≡◌, ℕ, ◌+◌, ◌<◌, ◌≤◌, ◌^◌, Bool, true, false, List, [], ◌∷◌, ◌++◌, length, All, Option, Some, None, Result, Ok, Err, IfOk, IfSome, refl, sym, ap, subst, ◌∙◌, inl, inr, arith, append-nil}
+use Rattle.std.proofs.Common.{◌≡◌, ℕ, ℤ, pos, ◌+◌, ◌<◌, ◌≤◌, ◌^◌, Bool, true, false, List, [], ◌∷◌, ◌++◌, length, All, Option, Some, None, Result, Ok, Err, IfOk, IfSome, refl, sym, ap, subst, ◌∙◌, inl, inr, arith, append-nil}
 use Rattle.std.proofs.lemmas.Bool.{cases_Bool, cases_eq, cases_lt, lt-ltb}
 use Rattle.std.proofs.lemmas.List.{length_push}
 use Rattle.std.proofs.lemmas.List.Elements.{All-nil, All-push, All-pop}
@@ -12,6 +12,8 @@ use Rattle.fb_graph.specs.declared.parts.Row.{Row}
 use Rattle.fb_graph.specs.declared.parts.Row.TheVariants as row
 use Rattle.fb_verify.specs.declared.report_faults.ReportFault.{ReportFault}
 use Rattle.fb_verify.specs.declared.reports.Report.{Report}
+use Rattle.fb_verify.specs.declared.reports.Version.{Version}
+use Rattle.fb_verify.specs.declared.reports.Version.TheVariants.{One, Two}
 use Rattle.fb_verify.specs.declared.lines.Line.{Line}
 use Rattle.fb_verify.specs.declared.lines.Line.TheVariants as line
 use Rattle.fb_verify.specs.Places.{Place}
@@ -19,7 +21,7 @@ use Rattle.fb_verify.specs.Places as place
 use Rattle.fb_verify.specs.Places.{Reading}
 use Rattle.fb_verify.specs.declared.report_faults.ReportFault.TheVariants.{BadLine, WrongShot}
 use Rattle.fb_graph.specs.declared.parts.Cut.{Cut}
-use Rattle.fb_verify.specs.Reports.{words_of, is_odd, has_none, first_number, after_word, all_numbers, with_number, with_word, at_end, row_kind, cut_of, head_line, shot_line, edges_line, weight_line, cut_line, trace_line, done_line, line_of, reading, as_next, at_row_end, step, with_line, ending, go_on, read_from, most_bytes, report_of_text}
+use Rattle.fb_verify.specs.Reports.{words_of, is_odd, has_none, first_number, first_signed, after_word, all_numbers, with_number, with_signed, with_word, at_end, row_kind, cut_of, head_line, shot_line, edges_line, base_line, weight_line, cut_line, trace_line, done_line, line_of, reading, as_next, at_row_end, after_edges, may_weigh, step, with_line, ending, go_on, read_from, most_bytes, report_of_text}
 use Rattle.fb_verify.specs.Verdicts.{HasPositiveValues}
 
 -- ---- lines
@@ -46,6 +48,10 @@ ended said (w ∷ ws) p = tt
 
 numbered : (bound : ℕ) (words : List (List ℕ)) (f : ℕ → List (List ℕ) → Option Line) → ((n : ℕ) (ws : List (List ℕ)) → IfSome (f n ws) IsPositive) → IfSome (with_number bound words f) IsPositive
 numbered bound words f h = and_then_all IsPositive (λ p. f p.0 p.1) (first_number bound words) (λ p. h p.0 p.1)
+
+signed_numbered : (bound : ℕ) (words : List (List ℕ)) (f : ℤ → List (List ℕ) → Option Line) → ((z : ℤ) (ws : List (List ℕ)) → IfSome (f z ws) IsPositive)
+    → IfSome (with_signed bound words f) IsPositive
+signed_numbered bound words f h = and_then_all IsPositive (λ p. f p.0 p.1) (first_signed bound words) (λ p. h p.0 p.1)
 
 worded : (word : List ℕ) (words : List (List ℕ)) (f : List (List ℕ) → Option Line) → ((ws : List (List ℕ)) → IfSome (f ws) IsPositive) → IfSome (with_word word words f) IsPositive
 worded word words f h = and_then_all IsPositive f (after_word word words) h
@@ -76,25 +82,33 @@ done_positive words =
     numbered (2 ^ 64) ws _ (λ fusions ws.
     ended (line.Done (record { rows = rows; odd = odd; units = units; fusions = fusions })) ws tt)))))))
 
+head_positive : (words : List (List ℕ)) → IfSome (head_line words) IsPositive
+unfolding head_line
+head_positive [] = tt
+head_positive (w ∷ ws) =
+    if_both IsPositive (bytes_eq w (codes "1")) _ _ (ended (line.Head One) ws tt)
+    (if_both IsPositive (bytes_eq w (codes "2")) _ None (ended (line.Head Two) ws tt) tt)
+
 line_positive : (words : List (List ℕ)) → IfSome (line_of words) IsPositive
-unfolding line_of head_line shot_line edges_line weight_line cut_line
+unfolding line_of shot_line edges_line base_line weight_line cut_line
 line_positive [] = tt
 line_positive (w ∷ ws) =
-    if_both IsPositive (bytes_eq w (codes "fusion-report")) _ _ (worded (codes "1") ws _ (λ ws. ended line.Head ws tt))
+    if_both IsPositive (bytes_eq w (codes "fusion-report")) _ _ (head_positive ws)
     (if_both IsPositive (bytes_eq w (codes "shot")) _ _ (numbered (2 ^ 32) ws row_kind kind_positive)
     (if_both IsPositive (bytes_eq w (codes "edges")) _ _ (map_all IsPositive line.Edges (all_numbers ws) (λ es. tt))
-    (if_both IsPositive (bytes_eq w (codes "weight")) _ _ (numbered (2 ^ 64) ws _ (λ weight ws. ended (line.Weight weight) ws tt))
+    (if_both IsPositive (bytes_eq w (codes "base")) _ _ (signed_numbered (2 ^ 63) ws _ (λ base ws. ended (line.Base base) ws tt))
+    (if_both IsPositive (bytes_eq w (codes "weight")) _ _ (signed_numbered (2 ^ 64) ws _ (λ weight ws. ended (line.Weight weight) ws tt))
     (if_both IsPositive (bytes_eq w (codes "cut")) _ _
     (numbered (2 ^ 64) ws _ (λ value ws. and_then_all IsPositive (cut_of value) (all_numbers ws) (cut_positive value)))
     (if_both IsPositive (bytes_eq w (codes "took")) _ _ (trace_positive ws)
     (if_both IsPositive (bytes_eq w (codes "gave")) _ _ (trace_positive ws)
-    (if_both IsPositive (bytes_eq w (codes "done")) _ None (done_positive ws) tt)))))))
+    (if_both IsPositive (bytes_eq w (codes "done")) _ None (done_positive ws) tt))))))))
 
 -- ---- line after line
 
 -- the row that further lines may add to
 abbrev open_row : Place → List Row
-open_row (place.Cuts edges weight cuts) = row.Best edges weight cuts ∷ []
+open_row (place.Cuts version edges base weight cuts) = row.Best edges base weight cuts ∷ []
 open_row here = []
 
 abbrev all_rows : Reading → List Row
@@ -120,8 +134,9 @@ kept_same count rows here none positive few =
       few = omega (arith, ap length same);
     }
 
-kept_pushed : (count : ℕ) (rows : List Row) (r : Row) → HasPositiveValues r → All HasPositiveValues rows → length rows ≤ count → IsKept (count + 1) (reading (rows ++ r ∷ []) place.Between)
-kept_pushed count rows r fine positive few =
+kept_pushed : (count : ℕ) (version : Version) (rows : List Row) (r : Row) → HasPositiveValues r → All HasPositiveValues rows → length rows ≤ count
+    → IsKept (count + 1) (reading (rows ++ r ∷ []) (place.Between version))
+kept_pushed count version rows r fine positive few =
     let same : (rows ++ r ∷ []) ++ [] ≡ rows ++ r ∷ [] = append-nil (rows ++ r ∷ []) in
     record {
       positive = subst (All HasPositiveValues) (sym same) (All-push HasPositiveValues rows r positive fine);
@@ -131,19 +146,24 @@ kept_pushed count rows r fine positive few =
 kept_next : (count n : ℕ) (rows : List Row) (k : ℕ) (next : Reading) → IsKept count next → Kept count (as_next n rows k next)
 kept_next count n rows k next kept = kept_if count (k == length rows) (Ok next) (Err (WrongShot n)) kept tt
 
-kept_end : (count n : ℕ) (rows : List Row) (said : Line) → All HasPositiveValues rows → length rows ≤ count → Kept (count + 1) (at_row_end n rows said)
-kept_end count n rows (line.Shot k) positive few = kept_next (count + 1) n rows k (reading rows place.InRow) (kept_same count rows place.InRow refl positive few)
-kept_end count n rows (line.Odd k v) positive few =
-    kept_next (count + 1) n rows k (reading (rows ++ row.Odd v ∷ []) place.Between) (kept_pushed count rows (row.Odd v) tt positive few)
-kept_end count n rows line.Trace positive few =
-    kept_if (count + 1) (has_none rows) (Err (BadLine n)) (Ok (reading rows place.Between)) tt (kept_same count rows place.Between refl positive few)
-kept_end count n rows (line.Done totals) positive few =
+kept_end : (count n : ℕ) (version : Version) (rows : List Row) (said : Line) → All HasPositiveValues rows → length rows ≤ count
+    → Kept (count + 1) (at_row_end n version rows said)
+kept_end count n version rows (line.Shot k) positive few =
+    kept_next (count + 1) n rows k (reading rows (place.InRow version)) (kept_same count rows (place.InRow version) refl positive few)
+kept_end count n version rows (line.Odd k v) positive few =
+    kept_next (count + 1) n rows k (reading (rows ++ row.Odd v ∷ []) (place.Between version))
+    (kept_pushed count version rows (row.Odd v) tt positive few)
+kept_end count n version rows line.Trace positive few =
+    kept_if (count + 1) (has_none rows) (Err (BadLine n)) (Ok (reading rows (place.Between version))) tt
+    (kept_same count rows (place.Between version) refl positive few)
+kept_end count n version rows (line.Done totals) positive few =
     kept_if (count + 1) (totals.rows == length rows && totals.odd == count_by is_odd rows) (Ok (reading rows (place.End totals))) (Err (BadLine n))
     (kept_same count rows (place.End totals) refl positive few) tt
-kept_end count n rows line.Head positive few = tt
-kept_end count n rows (line.Edges edges) positive few = tt
-kept_end count n rows (line.Weight weight) positive few = tt
-kept_end count n rows (line.Cut c) positive few = tt
+kept_end count n version rows (line.Head other) positive few = tt
+kept_end count n version rows (line.Edges edges) positive few = tt
+kept_end count n version rows (line.Base base) positive few = tt
+kept_end count n version rows (line.Weight weight) positive few = tt
+kept_end count n version rows (line.Cut c) positive few = tt
 
 -- rows behind which no row is open
 closed_positive : (rows : List Row) → All HasPositiveValues (rows ++ []) → All HasPositiveValues rows
@@ -152,35 +172,50 @@ closed_positive rows p = subst (All HasPositiveValues) (append-nil rows) p
 closed_few : (count : ℕ) (rows : List Row) → length (rows ++ []) ≤ count → length rows ≤ count
 closed_few count rows le = omega (arith, ap length (append-nil rows))
 
-kept_opened : (count : ℕ) (rows : List Row) (edges : List ℕ) (weight : ℕ) (cuts : List Cut) → All HasPositiveValues rows → length rows ≤ count → All (λ (c : Cut). 1 ≤ c.value) cuts
-    → IsKept (count + 1) (reading rows (place.Cuts edges weight cuts))
-kept_opened count rows edges weight cuts positive few fine = record {
-  positive = All-push HasPositiveValues rows (row.Best edges weight cuts) positive fine;
-  few = omega (arith, length_push rows (row.Best edges weight cuts));
+kept_opened : (count : ℕ) (version : Version) (rows : List Row) (edges : List ℕ) (base weight : ℤ) (cuts : List Cut)
+    → All HasPositiveValues rows → length rows ≤ count → All (λ (c : Cut). 1 ≤ c.value) cuts
+    → IsKept (count + 1) (reading rows (place.Cuts version edges base weight cuts))
+kept_opened count version rows edges base weight cuts positive few fine = record {
+  positive = All-push HasPositiveValues rows (row.Best edges base weight cuts) positive fine;
+  few = omega (arith, length_push rows (row.Best edges base weight cuts));
 }
 
 before_last : (rows : List Row) (r : Row) → All HasPositiveValues (rows ++ r ∷ []) → All HasPositiveValues rows × HasPositiveValues r
 before_last rows r p = All-pop HasPositiveValues (rows ++ r ∷ []) rows (Some r) refl p
 
-kept_cut : (count : ℕ) (rows : List Row) (edges : List ℕ) (weight : ℕ) (cuts : List Cut) (c : Cut) → 1 ≤ c.value → IsKept count (reading rows (place.Cuts edges weight cuts))
-    → IsKept (count + 1) (reading rows (place.Cuts edges weight (cuts ++ c ∷ [])))
-kept_cut count rows edges weight cuts c fine kept =
-    let parts = before_last rows (row.Best edges weight cuts) kept.positive in
+kept_cut : (count : ℕ) (version : Version) (rows : List Row) (edges : List ℕ) (base weight : ℤ) (cuts : List Cut) (c : Cut) → 1 ≤ c.value
+    → IsKept count (reading rows (place.Cuts version edges base weight cuts))
+    → IsKept (count + 1) (reading rows (place.Cuts version edges base weight (cuts ++ c ∷ [])))
+kept_cut count version rows edges base weight cuts c fine kept =
+    let parts = before_last rows (row.Best edges base weight cuts) kept.positive in
     let few = kept.few in
-    kept_opened count rows edges weight (cuts ++ c ∷ []) parts.0 (omega (arith, length_push rows (row.Best edges weight cuts)))
+    kept_opened count version rows edges base weight (cuts ++ c ∷ []) parts.0 (omega (arith, length_push rows (row.Best edges base weight cuts)))
     (All-push (λ (c : Cut). 1 ≤ c.value) cuts c parts.1 fine)
 
 kept_step : (count n : ℕ) (rows : List Row) (here : Place) (said : Line) → IsPositive said → IsKept count (reading rows here) → Kept (count + 1) (step n rows here said)
-kept_step count n rows place.Start line.Head fine kept = kept_same count rows place.Between refl (closed_positive rows kept.positive) (closed_few count rows kept.few)
+kept_step count n rows place.Start (line.Head version) fine kept =
+    kept_same count rows (place.Between version) refl (closed_positive rows kept.positive) (closed_few count rows kept.few)
 kept_step count n rows place.Start said fine kept = tt
-kept_step count n rows place.InRow (line.Edges edges) fine kept = kept_same count rows (place.Listed edges) refl (closed_positive rows kept.positive) (closed_few count rows kept.few)
-kept_step count n rows place.InRow said fine kept = tt
-kept_step count n rows (place.Listed edges) (line.Weight weight) fine kept =
-    kept_opened count rows edges weight [] (closed_positive rows kept.positive) (closed_few count rows kept.few) (λ k d lt. absurd (omega arith))
+kept_step count n rows (place.InRow One) (line.Edges edges) fine kept =
+    kept_same count rows (place.Based One edges (pos 0)) refl (closed_positive rows kept.positive) (closed_few count rows kept.few)
+kept_step count n rows (place.InRow Two) (line.Edges edges) fine kept =
+    kept_same count rows (place.Listed edges) refl (closed_positive rows kept.positive) (closed_few count rows kept.few)
+kept_step count n rows (place.InRow version) said fine kept = tt
+kept_step count n rows (place.Listed edges) (line.Base base) fine kept =
+    kept_same count rows (place.Based Two edges base) refl (closed_positive rows kept.positive) (closed_few count rows kept.few)
 kept_step count n rows (place.Listed edges) said fine kept = tt
-kept_step count n rows (place.Cuts edges weight cuts) (line.Cut c) fine kept = kept_cut count rows edges weight cuts c fine kept
-kept_step count n rows (place.Cuts edges weight cuts) said fine kept = kept_end count n (rows ++ row.Best edges weight cuts ∷ []) said kept.positive kept.few
-kept_step count n rows place.Between said fine kept = kept_end count n rows said (closed_positive rows kept.positive) (closed_few count rows kept.few)
+kept_step count n rows (place.Based version edges base) (line.Weight weight) fine kept =
+    kept_if (count + 1) (may_weigh version weight) (Ok (reading rows (place.Cuts version edges base weight []))) (Err (BadLine n))
+    (kept_opened count version rows edges base weight [] (closed_positive rows kept.positive) (closed_few count rows kept.few)
+    (λ k d lt. absurd (omega arith)))
+    tt
+kept_step count n rows (place.Based version edges base) said fine kept = tt
+kept_step count n rows (place.Cuts version edges base weight cuts) (line.Cut c) fine kept =
+    kept_cut count version rows edges base weight cuts c fine kept
+kept_step count n rows (place.Cuts version edges base weight cuts) said fine kept =
+    kept_end count n version (rows ++ row.Best edges base weight cuts ∷ []) said kept.positive kept.few
+kept_step count n rows (place.Between version) said fine kept =
+    kept_end count n version rows said (closed_positive rows kept.positive) (closed_few count rows kept.few)
 kept_step count n rows (place.End totals) said fine kept = tt
 
 kept_line : (count n : ℕ) (r : Reading) (said : Option Line) → IfSome said IsPositive → IsKept count r → Kept (count + 1) (with_line n r said)

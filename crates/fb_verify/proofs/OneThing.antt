@@ -1,5 +1,5 @@
 -- What a reading comes to, by the reports that begin like its text.
-use Rattle.std.proofs.Common.{◌≡◌, ◌≢◌, ℕ, ◌+◌, ◌<◌, ◌^◌, Bool, true, false, List, [], ◌∷◌, ◌++◌, length, All, codes, decimal, Option, Some, None, Result, Ok, Err, IfSome, refl, sym, ap, subst, ◌∙◌, cond, inl, inr, arith, append_assoc, append-nil}
+use Rattle.std.proofs.Common.{◌≡◌, ◌≢◌, ℕ, pos, ◌+◌, ◌<◌, ◌^◌, Bool, true, false, List, [], ◌∷◌, ◌++◌, length, All, codes, decimal, Option, Some, None, Result, Ok, Err, IfSome, refl, sym, ap, subst, ◌∙◌, cond, inl, inr, arith, append_assoc, append-nil}
 use Rattle.std.specs.Prelude.{◌==◌, ◌&&◌, if◌then◌else◌, count_by}
 use Rattle.std.specs.List.{onto_first, join_with_byte}
 use Rattle.std.proofs.lemmas.Bool.{cases_Bool, and_parts, eqb-true, eqb-false, or_parts, or_from, ne_eqb}
@@ -10,24 +10,26 @@ use Rattle.std.proofs.lemmas.List.Splits.{join_with_byte-slice_split}
 use Rattle.std.proofs.lemmas.List.Sums.{sum_by-cons, sum_by-append}
 use Rattle.fb_graph.specs.declared.parts.Row.{Row}
 use Rattle.fb_graph.specs.declared.parts.Row.TheVariants as row
-use Rattle.fb_report.specs.Texts.{line, head_text, row_text, done_text}
+use Rattle.fb_report.specs.Texts.{line, done_text}
 use Rattle.fb_verify.specs.declared.report_faults.ReportFault.{ReportFault}
 use Rattle.fb_verify.specs.declared.report_faults.ReportFault.TheVariants.{BadLine, WrongShot, Unfinished, TooLong, NoMemory}
 use Rattle.fb_verify.specs.declared.reports.Totals.{Totals}
+use Rattle.fb_verify.specs.declared.reports.Version.{Version}
+use Rattle.fb_verify.specs.declared.reports.Version.TheVariants.{One, Two}
 use Rattle.fb_verify.specs.declared.lines.Line.{Line}
 use Rattle.fb_verify.specs.declared.lines.Line.TheVariants as line
 use Rattle.fb_verify.specs.Places.{Place}
 use Rattle.fb_verify.specs.Places as place
 use Rattle.fb_verify.specs.Places.{Reading}
-use Rattle.fb_verify.specs.Reports.{words_of, is_odd, has_none, line_of, reading, as_next, at_row_end, step, with_line, ending, go_on, read_from, report_in}
-use Rattle.fb_verify.specs.ReadBack.{TracedRow, traced_text, rows_of, report_with, IsCutInRange, IsInRange}
+use Rattle.fb_verify.specs.Reports.{words_of, is_odd, has_none, may_weigh, line_of, reading, as_next, at_row_end, step, with_line, ending, go_on, read_from, report_in}
+use Rattle.fb_verify.specs.ReadBack.{TracedRow, head_of, row_of, traced_text, rows_of, report_with, IsCutInRange, IsInRange}
 use Rattle.fb_verify.specs.Readings.{IsReport, BeginsReport, newlines, AreLines, IsLine, BeginsRow, IsOutOfTurn, IsNoContinuation, IsCutShort, IsReadingOf, ReadsAsIs, IsOneThing}
 use Rattle.fb_verify.proofs.Parts.{some_part}
 use Rattle.fb_verify.proofs.PrintedWords.{holds, split_at, split_last, joined, line-joined, AreWords, word_decimal, first_line}
 use Rattle.fb_verify.proofs.LineAfterLine.{read_taken, read_failed}
 use Rattle.fb_verify.proofs.ReadRows.{lines_in, IsBetween, is_cut, said_shot, said_odd, odd-line, done-line, rows_read, read_back}
 use Rattle.fb_verify.proofs.ReadWords.{IsTextOf, line_read}
-use Rattle.fb_verify.proofs.Continued.{AreRows, count_same, pushed, told_event, shot_text, IsEnded, IsPlace, longer, best-cut, edges_listed, weighed, rows_begin, begins}
+use Rattle.fb_verify.proofs.Continued.{AreRows, count_same, pushed, told_event, shot_text, IsEnded, IsPlace, longer, best-cut, edges_listed, based, weight_in_range, weighed, rows_begin, begins}
 
 -- ---- one line
 
@@ -43,10 +45,11 @@ comes_if : (n : ℕ) (prefix here : List ℕ) (b : Bool) (x y : Result Reading R
 comes_if n prefix here true x y p q = p refl
 comes_if n prefix here false x y p q = q refl
 
-out_of_turn : (prefix here : List ℕ) (rows : List Row) (k : ℕ) → AreRows prefix rows → k < 2 ^ 32 → BeginsRow k here → k == length rows ≡ false → IsOutOfTurn prefix here
-out_of_turn prefix here rows k are lt begun other =
-    let count = count_same prefix rows are in
+out_of_turn : (version : Version) (prefix here : List ℕ) (rows : List Row) (k : ℕ) → AreRows version prefix rows → k < 2 ^ 32 → BeginsRow k here → k == length rows ≡ false → IsOutOfTurn prefix here
+out_of_turn version prefix here rows k are lt begun other =
+    let count = count_same version prefix rows are in
     record {
+      version = version;
       traced = are.traced;
       rows = are.fits;
       count = are.few;
@@ -57,30 +60,31 @@ out_of_turn prefix here rows k are lt begun other =
       other = λ same. eqb-false k (length rows) other (same ∙ sym count);
     }
 
-row_end_comes : (n : ℕ) (prefix here : List ℕ) (rows : List Row) (said : Line) → AreRows prefix rows → IsTextOf here said → Comes n prefix here (at_row_end n rows said)
-row_end_comes n prefix here rows (line.Shot k) are text =
-    comes_if n prefix here (k == length rows) (Ok (reading rows place.InRow)) (Err (WrongShot n))
+row_end_comes : (n : ℕ) (version : Version) (prefix here : List ℕ) (rows : List Row) (said : Line) → AreRows version prefix rows → IsTextOf here said
+    → Comes n prefix here (at_row_end n version rows said)
+row_end_comes n version prefix here rows (line.Shot k) are text =
+    comes_if n prefix here (k == length rows) (Ok (reading rows (place.InRow version))) (Err (WrongShot n))
     (λ same. let e = eqb-true k (length rows) same in let lt = text.1 in record {
       before = prefix;
       whole = are;
       text = ap (λ (l : List ℕ). prefix ++ l) (text.0 ∙ ap shot_text e);
       few = omega arith;
     })
-    (λ other. (refl, out_of_turn prefix here rows k are text.1 (inl text.0) other))
-row_end_comes n prefix here rows (line.Odd k v) are text =
-    comes_if n prefix here (k == length rows) (Ok (reading (rows ++ row.Odd v ∷ []) place.Between)) (Err (WrongShot n))
-    (λ same. let e = eqb-true k (length rows) same in let lt = text.1 in pushed (prefix ++ here) rows (row.Odd v) text.2 (record {
+    (λ other. (refl, out_of_turn version prefix here rows k are text.1 (inl text.0) other))
+row_end_comes n version prefix here rows (line.Odd k v) are text =
+    comes_if n prefix here (k == length rows) (Ok (reading (rows ++ row.Odd v ∷ []) (place.Between version))) (Err (WrongShot n))
+    (λ same. let e = eqb-true k (length rows) same in let lt = text.1 in pushed version (prefix ++ here) rows (row.Odd v) text.2 (record {
       before = prefix;
       whole = are;
-      text = ap (λ (l : List ℕ). prefix ++ l) (text.0 ∙ sym (odd-line k v) ∙ ap (λ (n : ℕ). row_text n (row.Odd v)) e);
+      text = ap (λ (l : List ℕ). prefix ++ l) (text.0 ∙ sym (odd-line version k v) ∙ ap (λ (n : ℕ). row_of version n (row.Odd v)) e);
       few = omega arith;
     }))
-    (λ other. (refl, out_of_turn prefix here rows k are text.1 (inr (v, text.2, text.0)) other))
-row_end_comes n prefix here rows line.Trace are text =
-    comes_if n prefix here (has_none rows) (Err (BadLine n)) (Ok (reading rows place.Between))
+    (λ other. (refl, out_of_turn version prefix here rows k are text.1 (inr (v, text.2, text.0)) other))
+row_end_comes n version prefix here rows line.Trace are text =
+    comes_if n prefix here (has_none rows) (Err (BadLine n)) (Ok (reading rows (place.Between version)))
     (λ none. refl)
-    (λ some. subst (λ (l : List ℕ). AreRows (prefix ++ l) rows) (sym text.1) (told_event prefix rows text.0 some text.2 are))
-row_end_comes n prefix here rows (line.Done totals) are text =
+    (λ some. subst (λ (l : List ℕ). AreRows version (prefix ++ l) rows) (sym text.1) (told_event version prefix rows text.0 some text.2 are))
+row_end_comes n version prefix here rows (line.Done totals) are text =
     comes_if n prefix here (totals.rows == length rows && totals.odd == count_by is_odd rows) (Ok (reading rows (place.End totals))) (Err (BadLine n))
     (λ counted. ended counted)
     (λ other. refl)
@@ -90,44 +94,58 @@ row_end_comes n prefix here rows (line.Done totals) are text =
         let parts = and_parts (totals.rows == length rows) (totals.odd == count_by is_odd rows) counted in
         let all = eqb-true totals.rows (length rows) parts.0 in
         let odd = eqb-true totals.odd (count_by is_odd rows) parts.1 in
-        let whole = head_text ++ traced_text 0 are.traced in
+        let whole = head_of version ++ traced_text version 0 are.traced in
         record {
+          version = version;
           traced = are.traced;
           text = ap (λ (l : List ℕ). l ++ here) are.text
               ∙ ap (λ (l : List ℕ). whole ++ l)
-              (text.0 ∙ ap (λ (n : ℕ). done_text n totals.odd totals.units totals.fusions) (all ∙ count_same prefix rows are)
+              (text.0 ∙ ap (λ (n : ℕ). done_text n totals.odd totals.units totals.fusions) (all ∙ count_same version prefix rows are)
               ∙ ap (λ (n : ℕ). done_text (length are.traced) n totals.units totals.fusions) (odd ∙ ap (count_by is_odd) (sym are.same)));
           same = are.same;
           fits = record { rows = are.fits; count = are.few; units_fit = text.1; fusions_fit = text.2 };
           counts = (all, odd);
         }
-row_end_comes n prefix here rows line.Head are text = refl
-row_end_comes n prefix here rows (line.Edges edges) are text = refl
-row_end_comes n prefix here rows (line.Weight weight) are text = refl
-row_end_comes n prefix here rows (line.Cut c) are text = refl
+row_end_comes n version prefix here rows (line.Head other) are text = refl
+row_end_comes n version prefix here rows (line.Edges edges) are text = refl
+row_end_comes n version prefix here rows (line.Base base) are text = refl
+row_end_comes n version prefix here rows (line.Weight weight) are text = refl
+row_end_comes n version prefix here rows (line.Cut c) are text = refl
 
 step_comes : (n : ℕ) (prefix here : List ℕ) (rows : List Row) (at : Place) (said : Line) → IsPlace prefix rows at → IsTextOf here said → Comes n prefix here (step n rows at said)
-step_comes n prefix here rows place.Start line.Head are text = record {
+step_comes n prefix here rows place.Start (line.Head version) are text = record {
   traced = [];
-  text = ap (λ (l : List ℕ). l ++ here) are.0 ∙ text ∙ sym (append-nil head_text);
+  text = ap (λ (l : List ℕ). l ++ here) are.0 ∙ text ∙ sym (append-nil (head_of version));
   same = sym are.1;
-  fits = All-nil IsInRange;
+  fits = All-nil (IsInRange version);
   few = omega arith;
 }
 step_comes n prefix here rows place.Start said are text = refl
-step_comes n prefix here rows place.InRow (line.Edges edges) are text =
-    subst (λ (l : List ℕ). IsPlace (prefix ++ l) rows (place.Listed edges)) (sym text.0) (edges_listed prefix rows edges text.1 are)
-step_comes n prefix here rows place.InRow said are text = refl
-step_comes n prefix here rows (place.Listed edges) (line.Weight weight) are text =
-    subst (λ (l : List ℕ). IsPlace (prefix ++ l) rows (place.Cuts edges weight [])) (sym text.0) (weighed prefix rows edges weight text.1 are)
+step_comes n prefix here rows (place.InRow One) (line.Edges edges) are text =
+    subst (λ (l : List ℕ). IsPlace (prefix ++ l) rows (place.Based One edges (pos 0))) (sym text.0) (edges_listed One prefix rows edges text.1 are)
+step_comes n prefix here rows (place.InRow Two) (line.Edges edges) are text =
+    subst (λ (l : List ℕ). IsPlace (prefix ++ l) rows (place.Listed edges)) (sym text.0) (edges_listed Two prefix rows edges text.1 are)
+step_comes n prefix here rows (place.InRow version) said are text = refl
+step_comes n prefix here rows (place.Listed edges) (line.Base base) are text =
+    subst (λ (l : List ℕ). IsPlace (prefix ++ l) rows (place.Based Two edges base)) (sym text.0) (based prefix rows edges base text.1 are)
 step_comes n prefix here rows (place.Listed edges) said are text = refl
-step_comes n prefix here rows (place.Cuts edges weight cuts) (line.Cut c) are text = (
-  longer _ prefix here _ rows are.0 (ap (λ (l : List ℕ). row_text (length rows) (row.Best edges weight cuts) ++ l) text.0 ∙ best-cut (length rows) edges weight cuts c),
-  (are.1.0, are.1.1, All-push IsCutInRange cuts c are.1.2 text.1),
+step_comes n prefix here rows (place.Based version edges base) (line.Weight weight) are text =
+    comes_if n prefix here (may_weigh version weight) (Ok (reading rows (place.Cuts version edges base weight []))) (Err (BadLine n))
+    (λ may.
+    subst (λ (l : List ℕ). IsPlace (prefix ++ l) rows (place.Cuts version edges base weight [])) (sym text.0)
+    (weighed version prefix rows edges base weight (weight_in_range version weight may text.1) are))
+    (λ other. refl)
+step_comes n prefix here rows (place.Based version edges base) said are text = refl
+step_comes n prefix here rows (place.Cuts version edges base weight cuts) (line.Cut c) are text = (
+  longer version _ prefix here _ rows are.0
+      (ap (λ (l : List ℕ). row_of version (length rows) (row.Best edges base weight cuts) ++ l) text.0
+      ∙ best-cut version (length rows) edges base weight cuts c),
+  (are.1.0, are.1.1, are.1.2, All-push IsCutInRange cuts c are.1.3 text.1),
 )
-step_comes n prefix here rows (place.Cuts edges weight cuts) said are text =
-    row_end_comes n prefix here (rows ++ row.Best edges weight cuts ∷ []) said (pushed prefix rows (row.Best edges weight cuts) are.1 are.0) text
-step_comes n prefix here rows place.Between said are text = row_end_comes n prefix here rows said are text
+step_comes n prefix here rows (place.Cuts version edges base weight cuts) said are text =
+    row_end_comes n version prefix here (rows ++ row.Best edges base weight cuts ∷ []) said
+    (pushed version prefix rows (row.Best edges base weight cuts) are.1 are.0) text
+step_comes n prefix here rows (place.Between version) said are text = row_end_comes n version prefix here rows said are text
 step_comes n prefix here rows (place.End totals) said are text = refl
 
 line_comes : (n : ℕ) (prefix here : List ℕ) (r : Reading) (said : Option Line) → IsPlace prefix r.rows r.place → IfSome said (IsTextOf here) → Comes n prefix here (with_line n r said)
@@ -189,7 +207,7 @@ further n prefix bytes r next at none taken are = record {
 not_whole : (n : ℕ) (prefix : List ℕ) (r : Reading) → Stands n prefix r → ending n r.rows r.place [] ≡ Err Unfinished → ¬ IsReport prefix
 not_whole n prefix r at fails = λ whole.
     let read = ap report_in (sym (append-nil prefix ∙ whole.printed)) ∙ at.reads [] ∙ fails in
-    let back = read_back whole.traced whole.units whole.fusions whole.in_range in
+    let back = read_back whole.version whole.traced whole.units whole.fusions whole.in_range in
     cc
 
 cut_short : (n : ℕ) (text prefix last : List ℕ) (r : Reading) → Stands n prefix r → text ≡ prefix ++ last → holds 10 last ≡ false → ending n r.rows r.place [] ≡ Err Unfinished → IsCutShort text
@@ -208,6 +226,7 @@ end_told n text prefix [] rows (place.End totals) at parts none =
     let are = at.are in
     let count = ap length (sym are.same) in
     record {
+      version = are.version;
       traced = are.traced;
       units = totals.units;
       fusions = totals.fusions;
@@ -230,14 +249,17 @@ end_told n text prefix (b ∷ bytes) rows (place.End totals) at parts none =
       byte = b;
       more = bytes;
       parts = parts;
-      whole = record { traced = are.traced; units = totals.units; fusions = totals.fusions; in_range = are.fits; printed = are.text };
+      whole = record { version = are.version; traced = are.traced; units = totals.units; fusions = totals.fusions; in_range = are.fits; printed = are.text };
       number = at.number;
     })
 end_told n text prefix last rows place.Start at parts none = cut_short n text prefix last (reading rows place.Start) at parts none refl
-end_told n text prefix last rows place.InRow at parts none = cut_short n text prefix last (reading rows place.InRow) at parts none refl
+end_told n text prefix last rows (place.InRow version) at parts none = cut_short n text prefix last (reading rows (place.InRow version)) at parts none refl
 end_told n text prefix last rows (place.Listed edges) at parts none = cut_short n text prefix last (reading rows (place.Listed edges)) at parts none refl
-end_told n text prefix last rows (place.Cuts edges weight cuts) at parts none = cut_short n text prefix last (reading rows (place.Cuts edges weight cuts)) at parts none refl
-end_told n text prefix last rows place.Between at parts none = cut_short n text prefix last (reading rows place.Between) at parts none refl
+end_told n text prefix last rows (place.Based version edges base) at parts none =
+    cut_short n text prefix last (reading rows (place.Based version edges base)) at parts none refl
+end_told n text prefix last rows (place.Cuts version edges base weight cuts) at parts none =
+    cut_short n text prefix last (reading rows (place.Cuts version edges base weight cuts)) at parts none refl
+end_told n text prefix last rows (place.Between version) at parts none = cut_short n text prefix last (reading rows (place.Between version)) at parts none refl
 
 this_line : (n : ℕ) (text prefix bytes rest : List ℕ) (r : Reading) → Stands n prefix r → holds 10 bytes ≡ false → text ≡ prefix ++ (ended bytes ++ rest) → IsLine n text prefix (ended bytes)
 this_line n text prefix bytes rest r at none parts = record {
@@ -249,9 +271,9 @@ this_line n text prefix bytes rest r at none parts = record {
 }
 
 -- a row that is out of turn is refused as such
-refused : (n : ℕ) (r : Reading) (rows : List Row) (ws : List (List ℕ)) (said : Line) (fault : ReportFault) (more : List ℕ) → IsBetween rows r → is_cut said ≡ false
-    → at_row_end n rows said ≡ Err fault → AreWords ws → line_of (codes "shot" ∷ ws) ≡ Some said → read_from n r (lines_in (line (codes "shot") ws ++ more)) ≡ Err fault
-refused n r rows ws said fault more between cut failed words says =
+refused : (n : ℕ) (r : Reading) (version : Version) (rows : List Row) (ws : List (List ℕ)) (said : Line) (fault : ReportFault) (more : List ℕ) → IsBetween version rows r → is_cut said ≡ false
+    → at_row_end n version rows said ≡ Err fault → AreWords ws → line_of (codes "shot" ∷ ws) ≡ Some said → read_from n r (lines_in (line (codes "shot") ws ++ more)) ≡ Err fault
+refused n r version rows ws said fault more between cut failed words says =
     let first = first_line (codes "shot") ws more (record { space = refl; newline = refl }) words in
     read_failed n r fault (line (codes "shot") ws ++ more) first.prefix more first.split
     (ap (λ (l : List (List ℕ)). with_line n r (line_of l)) first.told ∙ ap (with_line n r) says ∙ between n said cut ∙ failed)
@@ -259,25 +281,25 @@ refused n r rows ws said fault more between cut failed words says =
 not_next : (n : ℕ) (rows : List Row) (k : ℕ) (next : Reading) → k ≢ length rows → as_next n rows k next ≡ Err (WrongShot n)
 not_next n rows k next other = let differs = ne_eqb k (length rows) other in rw differs refl
 
-row_refused : (here more : List ℕ) (k : ℕ) (rows : List Row) (n : ℕ) (r : Reading) → IsBetween rows r → k < 2 ^ 32 → k ≢ length rows → BeginsRow k here
+row_refused : (here more : List ℕ) (k : ℕ) (version : Version) (rows : List Row) (n : ℕ) (r : Reading) → IsBetween version rows r → k < 2 ^ 32 → k ≢ length rows → BeginsRow k here
     → read_from n r (lines_in (here ++ more)) ≡ Err (WrongShot n)
-row_refused here more k rows n r between lt other (inl e) =
+row_refused here more k version rows n r between lt other (inl e) =
     ap (λ (l : List ℕ). read_from n r (lines_in (l ++ more))) e
-    ∙ refused n r rows (decimal k ∷ []) (line.Shot k) (WrongShot n) more between refl (not_next n rows k (reading rows place.InRow) other)
+    ∙ refused n r version rows (decimal k ∷ []) (line.Shot k) (WrongShot n) more between refl (not_next n rows k (reading rows (place.InRow version)) other)
     (word_decimal k (omega arith), tt) (said_shot k lt)
-row_refused here more k rows n r between lt other (inr (v, less, e)) =
+row_refused here more k version rows n r between lt other (inr (v, less, e)) =
     ap (λ (l : List ℕ). read_from n r (lines_in (l ++ more))) e
-    ∙ refused n r rows (decimal k ∷ codes "odd" ∷ decimal v ∷ []) (line.Odd k v) (WrongShot n) more between refl
-    (not_next n rows k (reading (rows ++ row.Odd v ∷ []) place.Between) other)
+    ∙ refused n r version rows (decimal k ∷ codes "odd" ∷ decimal v ∷ []) (line.Odd k v) (WrongShot n) more between refl
+    (not_next n rows k (reading (rows ++ row.Odd v ∷ []) (place.Between version)) other)
     (word_decimal k (omega arith), (record { space = refl; newline = refl }, (word_decimal v (omega arith), tt))) (said_odd k v lt less)
 
 out_of_turn_read : (prefix here more : List ℕ) → IsOutOfTurn prefix here → (m : ℕ) × (report_in ((prefix ++ here) ++ more) ≡ Err (WrongShot m))
 out_of_turn_read prefix here more out =
-    let all = rows_read out.traced (here ++ more) out.rows out.count in
+    let all = rows_read out.version out.traced (here ++ more) out.rows out.count in
     let count = length-map out.traced (λ (t : TracedRow). t.row) in (
       all.line_number,
       ap report_in (append_assoc prefix here more) ∙ ap (λ (l : List ℕ). report_in (l ++ (here ++ more))) out.whole ∙ all.same
-          ∙ row_refused here more out.shot (rows_of out.traced) all.line_number all.next all.between out.in_range (λ e. out.other (e ∙ count)) out.row,
+          ∙ row_refused here more out.shot out.version (rows_of out.traced) all.line_number all.next all.between out.in_range (λ e. out.other (e ∙ count)) out.row,
     )
 
 fails_here : (n : ℕ) (text prefix bytes rest : List ℕ) (r : Reading) → Stands n prefix r → holds 10 bytes ≡ false → text ≡ prefix ++ (ended bytes ++ rest)
@@ -290,7 +312,7 @@ fails_here n text prefix bytes rest r at none parts failed = record {
   fails = λ begun.
       let whole = begun.whole in
       let read = ap report_in (sym whole.printed) ∙ no_report n prefix bytes r (BadLine n) at none failed begun.more in
-      let back = read_back whole.traced whole.units whole.fusions whole.in_range in
+      let back = read_back whole.version whole.traced whole.units whole.fusions whole.in_range in
       cc;
   in_turn = λ out.
       let wrong = out_of_turn_read prefix (ended bytes) [] out in
@@ -412,7 +434,7 @@ reached (part ∷ more) bytes n whole prefix r at none parts lines begun =
         let rest = join_with_byte 10 (part ∷ more) in
         let read = ap report_in (sym report.printed ∙ ap (λ (l : List ℕ). l ++ begun.more) cut ∙ append_assoc (prefix ++ ended bytes) rest begun.more)
         ∙ no_report n prefix bytes r fault at first e (rest ++ begun.more) in
-        let back = read_back report.traced report.units report.fusions report.in_range in
+        let back = read_back report.version report.traced report.units report.fusions report.in_range in
         absurd cc
 
 reaches : (prefix : List ℕ) → AreLines prefix → BeginsReport prefix → Reaches prefix
@@ -455,7 +477,7 @@ report_ends : (prefix : List ℕ) → IsReport prefix → AreLines prefix
 report_ends prefix whole =
     let rows = length whole.traced in
     let odd = count_by is_odd (rows_of whole.traced) in
-    let above = head_text ++ traced_text 0 whole.traced in
+    let above = head_of whole.version ++ traced_text whole.version 0 whole.traced in
     let words = decimal rows ∷ codes "odd" ∷ decimal odd ∷ codes "units" ∷ decimal whole.units ∷ codes "fusions" ∷ decimal whole.fusions ∷ [] in
     inr (
       above ++ joined (codes "done") words,
@@ -489,7 +511,7 @@ turned n text prefix bytes more r at none parts out =
         let begun = begins (prefix ++ ended bytes) next.rows next.place comes in
         let report = begun.whole in
         let read = (out_of_turn_read prefix (ended bytes) begun.more out).1 in
-        let back = ap report_in report.printed ∙ read_back report.traced report.units report.fusions report.in_range in
+        let back = ap report_in report.printed ∙ read_back report.version report.traced report.units report.fusions report.in_range in
         absurd cc
     through (Err (BadLine m)) e comes =
         let read = (out_of_turn_read prefix (ended bytes) more out).1 in
@@ -519,23 +541,27 @@ behind : (n : ℕ) (text prefix more : List ℕ) (b : ℕ) (rows : List Row) (he
     → report_in text ≡ Err (BadLine n)
 behind n text prefix more b rows (place.End totals) at whole parts = ap report_in parts ∙ at.reads (b ∷ more) ∙ bytes_behind n rows totals b more
 behind n text prefix more b rows place.Start at whole parts = absurd (not_whole n prefix (reading rows place.Start) at refl whole)
-behind n text prefix more b rows place.InRow at whole parts = absurd (not_whole n prefix (reading rows place.InRow) at refl whole)
+behind n text prefix more b rows (place.InRow version) at whole parts = absurd (not_whole n prefix (reading rows (place.InRow version)) at refl whole)
 behind n text prefix more b rows (place.Listed edges) at whole parts = absurd (not_whole n prefix (reading rows (place.Listed edges)) at refl whole)
-behind n text prefix more b rows (place.Cuts edges weight cuts) at whole parts = absurd (not_whole n prefix (reading rows (place.Cuts edges weight cuts)) at refl whole)
-behind n text prefix more b rows place.Between at whole parts = absurd (not_whole n prefix (reading rows place.Between) at refl whole)
+behind n text prefix more b rows (place.Based version edges base) at whole parts =
+    absurd (not_whole n prefix (reading rows (place.Based version edges base)) at refl whole)
+behind n text prefix more b rows (place.Cuts version edges base weight cuts) at whole parts =
+    absurd (not_whole n prefix (reading rows (place.Cuts version edges base weight cuts)) at refl whole)
+behind n text prefix more b rows (place.Between version) at whole parts = absurd (not_whole n prefix (reading rows (place.Between version)) at refl whole)
 
 unfinished : (n : ℕ) (prefix last : List ℕ) (rows : List Row) (here : Place) → IsPlace prefix rows here → ¬ IsReport prefix → ending n rows here last ≡ Err Unfinished
 unfinished n prefix last rows (place.End totals) are not_whole =
-    absurd (not_whole (record { traced = are.traced; units = totals.units; fusions = totals.fusions; in_range = are.fits; printed = are.text }))
+    absurd (not_whole (record { version = are.version; traced = are.traced; units = totals.units; fusions = totals.fusions; in_range = are.fits; printed = are.text }))
 unfinished n prefix last rows place.Start are not_whole = refl
-unfinished n prefix last rows place.InRow are not_whole = refl
+unfinished n prefix last rows (place.InRow version) are not_whole = refl
 unfinished n prefix last rows (place.Listed edges) are not_whole = refl
-unfinished n prefix last rows (place.Cuts edges weight cuts) are not_whole = refl
-unfinished n prefix last rows place.Between are not_whole = refl
+unfinished n prefix last rows (place.Based version edges base) are not_whole = refl
+unfinished n prefix last rows (place.Cuts version edges base weight cuts) are not_whole = refl
+unfinished n prefix last rows (place.Between version) are not_whole = refl
 
 pub is_one_thing : IsOneThing
 is_one_thing text (Ok report) is =
-    ap report_in is.printed ∙ read_back is.traced is.units is.fusions is.in_range ∙ ap Ok (sym is.says)
+    ap report_in is.printed ∙ read_back is.version is.traced is.units is.fusions is.in_range ∙ ap Ok (sym is.says)
 is_one_thing text (Err (BadLine n)) (inl is) =
     let at = reaches is.prefix is.line.before is.begun in
     let here = one_line is.here is.line.one.0 is.line.one.1 in
@@ -547,8 +573,8 @@ is_one_thing text (Err (BadLine n)) (inr is) =
     let at = reaches is.prefix (report_ends is.prefix is.whole) (report_begins is.prefix is.whole) in
     behind n text is.prefix is.more is.byte at.here.rows at.here.place (subst (λ (k : ℕ). Stands k is.prefix at.here) (sym is.number) at.stands) is.whole is.parts
 is_one_thing text (Err (WrongShot n)) is =
-    let rows : AreRows is.prefix (rows_of is.wrong.traced) = record { traced = is.wrong.traced; text = is.wrong.whole; same = refl; fits = is.wrong.rows; few = is.wrong.count } in
-    let at = reaches is.prefix is.line.before (rows_begin is.prefix (rows_of is.wrong.traced) rows) in
+    let rows : AreRows is.wrong.version is.prefix (rows_of is.wrong.traced) = record { traced = is.wrong.traced; text = is.wrong.whole; same = refl; fits = is.wrong.rows; few = is.wrong.count } in
+    let at = reaches is.prefix is.line.before (rows_begin is.wrong.version is.prefix (rows_of is.wrong.traced) rows) in
     let here = one_line is.here is.line.one.0 is.line.one.1 in
     turned n text is.prefix here.bytes is.line.more at.here (subst (λ (k : ℕ). Stands k is.prefix at.here) (sym is.line.number) at.stands) here.none
     (is.line.parts ∙ ap (λ (l : List ℕ). is.prefix ++ (l ++ is.line.more)) here.text)

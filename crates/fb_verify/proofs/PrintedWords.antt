@@ -1,13 +1,14 @@
 -- Words and lines as a report prints them, and what a reader makes of them.
-use Rattle.std.proofs.Common.{◌≡◌, ℕ, ◌+◌, ◌*◌, ◌-◌, ◌/◌, ◌%◌, ◌^◌, ◌<◌, ◌≤◌, Bool, true, false, eqb, List, [], ◌∷◌, ◌++◌, get_or, All, map, decimal, Some, refl, sym, ap, subst, ◌∙◌, inl, inr, arith, append_assoc}
-use Rattle.std.specs.Prelude.{option_and_then}
+use Rattle.std.proofs.Common.{◌≡◌, ℕ, ℤ, zero, suc, pos, negsuc, ◌+◌, ◌*◌, ◌-◌, ◌/◌, ◌%◌, ◌^◌, ◌<◌, ◌≤◌, Bool, true, false, eqb, List, [], ◌∷◌, ◌++◌, get_or, All, map, decimal, Option, Some, None, refl, sym, ap, subst, ◌∙◌, inl, inr, arith, append_assoc}
+use Rattle.std.specs.Prelude.{◌==◌, option_map, option_and_then, unsigned_abs}
+use Rattle.std.specs.Fmt.{signed_decimal}
 use Rattle.std.specs.List.{list_any, slice_split, join_with_byte}
-use Rattle.std.proofs.lemmas.Bool.{cases_Bool, cases_lt, or_parts, ne_eqb, eq-eqb, and_from, le-leb, lt-ltb}
+use Rattle.std.proofs.lemmas.Bool.{cases_Bool, cases_lt, eqb-true, or_parts, ne_eqb, eq-eqb, and_from, le-leb, lt-ltb}
 use Rattle.std.proofs.lemmas.Fmt.{decimal_by_steps, decimal_digit, first_decimal}
 use Rattle.std.proofs.lemmas.List.Elements.{All-head, All-tail}
 use Rattle.std.proofs.lemmas.List.Folds.{list_any-append}
 use Rattle.fb_report.specs.Texts.{line}
-use Rattle.fb_verify.specs.Reports.{words_of, is_digit, number_from, number_of, below, first_number, all_numbers}
+use Rattle.fb_verify.specs.Reports.{words_of, is_digit, number_from, number_of, below, negative, signed_number, first_number, first_signed, all_numbers}
 
 -- ---- numbers
 
@@ -75,6 +76,35 @@ first_number-decimal bound n ws lt le =
     let within = below_bound bound n lt in
     rw (value, within) refl
 
+-- a number doesn't begin with a minus sign
+unsigned_first : (c n : ℕ) (ds : List ℕ) → number_of (c ∷ ds) ≡ Some n → c == 45 ≡ false
+unsigned_first c n ds e = elim (cases_Bool (c == 45)) [
+  | inl minus ↦ absurd (none c n ds (eqb-true c 45 minus) e)
+  | inr other ↦ other
+]
+  where
+    none : (c n : ℕ) (ds : List ℕ) → c ≡ 45 → number_of (c ∷ ds) ≡ Some n → ⊥
+    none c n [] same e = (let f : number_of (45 ∷ []) ≡ Some n = subst (λ (d : ℕ). number_of (d ∷ []) ≡ Some n) same e in cc)
+    none c n (d ∷ ds) same e = (let f : number_of (45 ∷ d ∷ ds) ≡ Some n = subst (λ (b : ℕ). number_of (b ∷ d ∷ ds) ≡ Some n) same e in cc)
+
+signed_number-pos : (bound n : ℕ) (w : List ℕ) → number_of w ≡ Some n → n < bound → signed_number bound w ≡ Some (pos n)
+signed_number-pos bound n [] e lt = absurd cc
+signed_number-pos bound n (c ∷ ds) e lt =
+    let other = unsigned_first c n ds e in
+    let within = below_bound bound n lt in
+    rw (other, e, within) refl
+
+signed_number-decimal : (bound : ℕ) (z : ℤ) → unsigned_abs z < bound → bound ≤ 2 ^ 64 → signed_number bound (signed_decimal z) ≡ Some z
+signed_number-decimal bound (pos n) lt le = signed_number-pos bound n (decimal n) (number_of-decimal n (omega arith)) lt
+signed_number-decimal bound (negsuc n) lt le =
+    let value = number_of-decimal (suc n) (omega arith) in
+    let within = below_bound bound (suc n) lt in
+    rw (value, within) refl
+
+pub first_signed-decimal : (bound : ℕ) (z : ℤ) (ws : List (List ℕ)) → unsigned_abs z < bound → bound ≤ 2 ^ 64
+    → first_signed bound (signed_decimal z ∷ ws) ≡ Some (z, ws)
+first_signed-decimal bound z ws lt le = ap (option_map (λ y. (y, ws))) (signed_number-decimal bound z lt le)
+
 pub all_numbers-decimal : (ns : List ℕ) → All (λ n. n < 2 ^ 32) ns → all_numbers (map decimal ns) ≡ Some ns
 all_numbers-decimal [] lt = refl
 all_numbers-decimal (n ∷ ns) lt =
@@ -96,6 +126,10 @@ AreWords (w ∷ ws) = IsWord w × AreWords ws
 
 pub word_decimal : (n : ℕ) → n < 2 ^ 64 → IsWord (decimal n)
 word_decimal n lt = let d = numeral n lt in record { space = d.space; newline = d.newline }
+
+pub word_signed : (z : ℤ) → unsigned_abs z < 2 ^ 64 → IsWord (signed_decimal z)
+word_signed (pos n) lt = word_decimal n lt
+word_signed (negsuc n) lt = (let d = word_decimal (suc n) lt in record { space = d.space; newline = d.newline })
 
 pub words_decimal : (ns : List ℕ) → All (λ n. n < 2 ^ 32) ns → AreWords (map decimal ns)
 words_decimal [] lt = tt

@@ -1,8 +1,9 @@
 -- What a reader's words and lines say of the text that they were read from.
-use Rattle.std.proofs.Common.{◌≡◌, ℕ, ◌+◌, ◌*◌, ◌-◌, ◌<◌, ◌≤◌, ◌^◌, Bool, true, false, List, [], ◌∷◌, length, get_or, All, map, codes, decimal, Option, Some, None, IfSome, refl, sym, ap, subst, ◌∙◌, inl, inr, arith, rules}
-use Rattle.std.specs.Prelude.{◌==◌, nat_lt, nat_le, if◌then◌else◌, option_map, option_and_then}
+use Rattle.std.proofs.Common.{◌≡◌, ℕ, ℤ, zero, suc, pos, negsuc, ◌+◌, ◌*◌, ◌-◌, ◌<◌, ◌≤◌, ◌^◌, Bool, true, false, List, [], ◌∷◌, length, get_or, All, map, codes, decimal, Option, Some, None, IfSome, refl, sym, ap, subst, ◌∙◌, inl, inr, arith, rules}
+use Rattle.std.specs.Prelude.{◌==◌, nat_lt, nat_le, if◌then◌else◌, option_map, option_and_then, unsigned_abs}
+use Rattle.std.specs.Fmt.{signed_decimal}
 use Rattle.std.specs.Str.{bytes_eq}
-use Rattle.std.proofs.lemmas.Bool.{cases_Bool, and_parts, leb-true, ltb-true, eqb-false}
+use Rattle.std.proofs.lemmas.Bool.{cases_Bool, and_parts, eqb-true, leb-true, ltb-true, eqb-false}
 use Rattle.std.proofs.lemmas.List.Elements.{All-nil, All-cons}
 use Rattle.std.proofs.lemmas.Fmt.{decimal-digits_value}
 use Rattle.std.proofs.lemmas.Slice.Eq.{bytes_eq-Decides}
@@ -10,10 +11,11 @@ use Rattle.std.proofs.lemmas.Str.Parse.{IsNumeralModel, numerals_by_fold, tells_
 use Rattle.std.specs.Str.Parse.{AllDigits}
 use Rattle.fb_report.specs.Texts as texts
 use Rattle.fb_report.specs.Texts.{line, head_text, done_text}
+use Rattle.fb_verify.specs.declared.reports.Version.TheVariants.{One, Two}
 use Rattle.fb_verify.specs.declared.lines.Line.{Line}
 use Rattle.fb_verify.specs.declared.lines.Line.TheVariants as line
-use Rattle.fb_verify.specs.Reports.{is_digit, number_from, number_of, below, first_number, after_word, all_numbers, with_number, with_word, at_end, row_kind, cut_of, head_line, shot_line, edges_line, weight_line, cut_line, trace_line, done_line, line_of}
-use Rattle.fb_verify.specs.ReadBack.{Event, event_text, IsCutInRange, IsEventInRange}
+use Rattle.fb_verify.specs.Reports.{is_digit, number_from, number_of, below, negative, signed_number, first_number, first_signed, after_word, all_numbers, with_number, with_signed, with_word, at_end, row_kind, cut_of, head_line, shot_line, edges_line, base_line, weight_line, cut_line, trace_line, done_line, line_of}
+use Rattle.fb_verify.specs.ReadBack.{Event, event_text, head_of, IsCutInRange, IsEventInRange}
 
 -- ---- numbers
 
@@ -44,7 +46,7 @@ digits_of_number n value (c ∷ cs) e = elim (cases_Bool (is_digit c)) [
   | inr other ↦ absurd (let f = rw other at e in cc)
 ]
 
--- digits without a leading zero are printed from their number
+-- digits without a leading nought are printed from their number
 printed_digits : (ds : List ℕ) (n : ℕ) → AreDigits 0 n ds → 0 < length ds → (get_or ds 0 0 ≡ 48 → length ds ≡ 1) → n < 2 ^ 64 → ds ≡ decimal n
 printed_digits ds n are some lead lt =
     let same = are.same in
@@ -52,12 +54,12 @@ printed_digits ds n are some lead lt =
 
 printed_number : (w : List ℕ) (n : ℕ) → number_of w ≡ Some n → n < 2 ^ 64 → w ≡ decimal n
 printed_number [] n e lt = absurd cc
-printed_number (c ∷ []) n e lt = printed_digits (c ∷ []) n (digits_of_number 0 n (c ∷ []) e) (omega arith) (λ zero. refl) lt
+printed_number (c ∷ []) n e lt = printed_digits (c ∷ []) n (digits_of_number 0 n (c ∷ []) e) (omega arith) (λ nought. refl) lt
 printed_number (c ∷ d ∷ ds) n e lt = elim (cases_Bool (c == 48)) [
-  | inl zero ↦ absurd (let f = rw zero at e in cc)
+  | inl nought ↦ absurd (let f = rw nought at e in cc)
   | inr some ↦
       printed_digits (c ∷ d ∷ ds) n (digits_of_number 0 n (c ∷ d ∷ ds) (rw some at e)) (omega arith)
-      (λ zero. absurd (eqb-false c 48 some zero)) lt
+      (λ nought. absurd (eqb-false c 48 some nought)) lt
 ]
 
 number_below : (bound : ℕ) (o : Option ℕ) → IfSome (below bound o) (λ n. (o ≡ Some n) × (n < bound))
@@ -98,6 +100,38 @@ number_read : {X : Type 0} (P : X → Type 0) (bound : ℕ) (ws : List (List ℕ
 number_read P bound ws f le h =
     and_then_some (IsFirst bound ws) P (λ p. f p.0 p.1) (first_number bound ws) (first_read bound ws le) (λ p e. h p.0 p.1 e.0 e.1)
 
+-- a word that is a number with its sign
+signed_below : (bound : ℕ) (w : List ℕ) → bound ≤ 2 ^ 64
+    → IfSome (signed_number bound w) (λ z. (w ≡ signed_decimal z) × (unsigned_abs z < bound))
+signed_below bound [] le = tt
+signed_below bound (c ∷ digits) le = elim (cases_Bool (c == 45)) [
+  | inl minus ↦
+      rw minus (and_then_some (λ n. (digits ≡ decimal n) × (n < bound)) (λ z. ((c ∷ digits) ≡ signed_decimal z) × (unsigned_abs z < bound)) negative
+      (below bound (number_of digits)) (word_below bound digits le) (λ n h. sign n h.0 h.1 (eqb-true c 45 minus)))
+  | inr other ↦
+      rw other (map_some (λ n. ((c ∷ digits) ≡ decimal n) × (n < bound)) (λ z. ((c ∷ digits) ≡ signed_decimal z) × (unsigned_abs z < bound)) pos
+      (below bound (number_of (c ∷ digits))) (word_below bound (c ∷ digits) le) (λ n h. h))
+]
+  where
+    sign : (n : ℕ) → digits ≡ decimal n → n < bound → c ≡ 45 → IfSome (negative n) (λ z. ((c ∷ digits) ≡ signed_decimal z) × (unsigned_abs z < bound))
+    sign zero e lt minus = tt
+    sign (suc n) e lt minus = (ap (λ (ds : List ℕ). c ∷ ds) e ∙ ap (λ (b : ℕ). b ∷ decimal (suc n)) minus, lt)
+
+abbrev IsFirstSigned : ℕ → List (List ℕ) → ℤ × List (List ℕ) → Type 0
+IsFirstSigned bound ws p = (ws ≡ signed_decimal p.0 ∷ p.1) × (unsigned_abs p.0 < bound)
+
+first_signed_read : (bound : ℕ) (ws : List (List ℕ)) → bound ≤ 2 ^ 64 → IfSome (first_signed bound ws) (IsFirstSigned bound ws)
+first_signed_read bound [] le = tt
+first_signed_read bound (w ∷ ws) le =
+    map_some (λ z. (w ≡ signed_decimal z) × (unsigned_abs z < bound)) (IsFirstSigned bound (w ∷ ws)) (λ z. (z, ws)) (signed_number bound w)
+    (signed_below bound w le) (λ z h. (ap (λ (v : List ℕ). v ∷ ws) h.0, h.1))
+
+signed_read : {X : Type 0} (P : X → Type 0) (bound : ℕ) (ws : List (List ℕ)) (f : ℤ → List (List ℕ) → Option X) → bound ≤ 2 ^ 64
+    → ((z : ℤ) (rest : List (List ℕ)) → ws ≡ signed_decimal z ∷ rest → unsigned_abs z < bound → IfSome (f z rest) P)
+    → IfSome (with_signed bound ws f) P
+signed_read P bound ws f le h =
+    and_then_some (IsFirstSigned bound ws) P (λ p. f p.0 p.1) (first_signed bound ws) (first_signed_read bound ws le) (λ p e. h p.0 p.1 e.0 e.1)
+
 after_read : (word : List ℕ) (ws : List (List ℕ)) → IfSome (after_word word ws) (λ rest. ws ≡ word ∷ rest)
 after_read word [] = tt
 after_read word (w ∷ ws) = elim (cases_Bool (bytes_eq w word)) [
@@ -128,11 +162,12 @@ all_read (w ∷ ws) =
 
 -- the text that says this, with its newline
 abbrev pub IsTextOf : List ℕ → Line → Type 0
-IsTextOf text line.Head = text ≡ head_text
+IsTextOf text (line.Head version) = text ≡ head_of version
 IsTextOf text (line.Shot k) = (text ≡ line (codes "shot") (decimal k ∷ [])) × (k < 2 ^ 32)
 IsTextOf text (line.Odd k v) = (text ≡ line (codes "shot") (decimal k ∷ codes "odd" ∷ decimal v ∷ [])) × (k < 2 ^ 32) × (v < 2 ^ 32)
 IsTextOf text (line.Edges edges) = (text ≡ line (codes "edges") (map decimal edges)) × All (λ k. k < 2 ^ 32) edges
-IsTextOf text (line.Weight weight) = (text ≡ line (codes "weight") (decimal weight ∷ [])) × (weight < 2 ^ 64)
+IsTextOf text (line.Base base) = (text ≡ texts.base_line base) × (unsigned_abs base < 2 ^ 63)
+IsTextOf text (line.Weight weight) = (text ≡ texts.weight_line weight) × (unsigned_abs weight < 2 ^ 64)
 IsTextOf text (line.Cut c) = (text ≡ texts.cut_line c) × IsCutInRange c
 IsTextOf text line.Trace = (e : Event) × (text ≡ event_text e) × IsEventInRange e
 IsTextOf text (line.Done totals) = (text ≡ done_text totals.rows totals.odd totals.units totals.fusions) × (totals.units < 2 ^ 64) × (totals.fusions < 2 ^ 64)
@@ -155,8 +190,16 @@ said : (w : List ℕ) (ws vs : List (List ℕ)) → ws ≡ vs → line w ws ≡ 
 said w ws vs e = ap (line w) e
 
 head_read : (ws : List (List ℕ)) → IfSome (head_line ws) (Says (codes "fusion-report") ws)
-unfolding head_line head_text
-head_read ws = word_read _ (codes "1") ws _ (λ rest e. end_read _ line.Head rest (λ none. said (codes "fusion-report") ws (codes "1" ∷ []) (cc)))
+unfolding head_line head_text head_of
+head_read [] = tt
+head_read (w ∷ ws) =
+    if_read _ (bytes_eq w (codes "1")) _ _
+    (λ same. let word = (bytes_eq-Decides w (codes "1")).0 same in
+    end_read _ (line.Head One) ws (λ none. said (codes "fusion-report") (w ∷ ws) (codes "1" ∷ []) (cc)))
+    (if_read _ (bytes_eq w (codes "2")) _ None
+    (λ same. let word = (bytes_eq-Decides w (codes "2")).0 same in
+    end_read _ (line.Head Two) ws (λ none. said (codes "fusion-report") (w ∷ ws) (codes "2" ∷ []) (cc)))
+    tt)
 
 kind_read : (k : ℕ) (ws rest : List (List ℕ)) → ws ≡ decimal k ∷ rest → k < 2 ^ 32 → IfSome (row_kind k rest) (Says (codes "shot") ws)
 unfolding row_kind
@@ -179,13 +222,19 @@ edges_read ws = map_some (AreNumbers ws) _ line.Edges (all_numbers ws) (all_read
 weight_read : (ws : List (List ℕ)) → IfSome (weight_line ws) (Says (codes "weight") ws)
 unfolding weight_line
 weight_read ws =
-    number_read _ (2 ^ 64) ws _ (omega arith) (λ weight rest e lt. end_read _ (line.Weight weight) rest
-    (λ none. (said (codes "weight") ws (decimal weight ∷ []) (cc), lt)))
+    signed_read _ (2 ^ 64) ws _ (omega arith) (λ weight rest e lt. end_read _ (line.Weight weight) rest
+    (λ none. (said (codes "weight") ws (signed_decimal weight ∷ []) (cc), lt)))
+
+base_read : (ws : List (List ℕ)) → IfSome (base_line ws) (Says (codes "base") ws)
+unfolding base_line
+base_read ws =
+    signed_read _ (2 ^ 63) ws _ (omega arith) (λ base rest e lt. end_read _ (line.Base base) rest
+    (λ none. (said (codes "base") ws (signed_decimal base ∷ []) (cc), lt)))
 
 cut_said : (value : ℕ) (vertices : List ℕ) (ws : List (List ℕ)) → ws ≡ decimal value ∷ map decimal vertices → value < 2 ^ 64 → All (λ v. v < 2 ^ 32) vertices
     → IfSome (cut_of value vertices) (Says (codes "cut") ws)
 cut_said value vertices ws e lt fits = elim (cases_Bool (value == 0)) [
-  | inl zero ↦ rw zero tt
+  | inl nought ↦ rw nought tt
   | inr some ↦ rw some (ap (line (codes "cut")) e, (record { least = above some; most = lt; vertices = fits }))
 ]
   where
@@ -229,8 +278,9 @@ line_read w ws =
     word_first w (codes "fusion-report") ws _ _ (head_read ws)
     (word_first w (codes "shot") ws _ _ (shot_read ws)
     (word_first w (codes "edges") ws _ _ (edges_read ws)
+    (word_first w (codes "base") ws _ _ (base_read ws)
     (word_first w (codes "weight") ws _ _ (weight_read ws)
     (word_first w (codes "cut") ws _ _ (cut_read ws)
     (word_first w (codes "took") ws _ _ (trace_read false ws)
     (word_first w (codes "gave") ws _ _ (trace_read true ws)
-    (word_first w (codes "done") ws _ _ (done_read ws) tt)))))))
+    (word_first w (codes "done") ws _ _ (done_read ws) tt))))))))

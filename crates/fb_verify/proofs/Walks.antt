@@ -1,5 +1,5 @@
 -- A reading decides which lines may follow by the numbers of its rows and its stage alone.
-use Rattle.std.proofs.Common.{◌≡◌, ℕ, ◌+◌, cond, Bool, true, false, List, [], ◌∷◌, ◌++◌, length, Some, None, Result, Ok, Err, refl, sym, ap, ◌∙◌, arith}
+use Rattle.std.proofs.Common.{◌≡◌, ℕ, ℤ, ◌+◌, cond, Bool, true, false, List, [], ◌∷◌, ◌++◌, length, Some, None, Result, Ok, Err, refl, sym, ap, ◌∙◌, arith}
 use Rattle.std.specs.Prelude.{◌==◌, ◌&&◌, if◌then◌else◌, count_by}
 use Rattle.std.specs.List.{slice_split}
 use Rattle.std.proofs.lemmas.Bool.{ne_eqb}
@@ -14,6 +14,8 @@ use Rattle.fb_verify.specs.declared.report_faults.ReportFault.{ReportFault}
 use Rattle.fb_verify.specs.declared.report_faults.ReportFault.TheVariants.{BadLine, WrongShot, Unfinished}
 use Rattle.fb_verify.specs.declared.report_lines.NextLine.TheVariants as next_line
 use Rattle.fb_verify.specs.declared.reports.Totals.{Totals}
+use Rattle.fb_verify.specs.declared.reports.Version.{Version}
+use Rattle.fb_verify.specs.declared.reports.Version.TheVariants.{One, Two}
 use Rattle.fb_verify.specs.declared.walking.Stage.TheVariants as stage
 use Rattle.fb_verify.specs.declared.walking.Walk.{Walk}
 use Rattle.fb_verify.specs.InternalWalks.{walk, walk_on_from_rows, walk_on, walk_end, walk_of}
@@ -21,7 +23,7 @@ use Rattle.fb_verify.specs.Places.{Place, Reading}
 use Rattle.fb_verify.specs.Places as place
 use Rattle.fb_verify.specs.Positions.{Position, IsAt, report_from}
 use Rattle.fb_verify.specs.ReportLines.{TakesLine, Gives}
-use Rattle.fb_verify.specs.Reports.{words_of, line_of, is_odd, has_none, reading, at_row_end, step, with_line, ending, read_from}
+use Rattle.fb_verify.specs.Reports.{words_of, line_of, is_odd, has_none, may_weigh, reading, at_row_end, step, with_line, ending, read_from}
 use Rattle.fb_verify.proofs.LineAfterLine.{read_taken, read_failed}
 
 abbrev walked : Result Reading ReportFault → Result Walk ReportFault
@@ -45,52 +47,63 @@ count-push rows r = fold-append (λ (a : ℕ) (x : Row). a + cond (is_odd x) 1 0
 count-odd : (rows : List Row) (v : ℕ) → count_by is_odd (rows ++ row.Odd v ∷ []) ≡ count_by is_odd rows + 1
 count-odd rows v = count-push rows (row.Odd v)
 
-count-best : (rows : List Row) (edges : List ℕ) (weight : ℕ) (cuts : List Cut) → count_by is_odd (rows ++ row.Best edges weight cuts ∷ []) ≡ count_by is_odd rows
-count-best rows edges weight cuts = (let more = count-push rows (row.Best edges weight cuts) in omega arith)
+count-best : (rows : List Row) (edges : List ℕ) (base weight : ℤ) (cuts : List Cut)
+    → count_by is_odd (rows ++ row.Best edges base weight cuts ∷ []) ≡ count_by is_odd rows
+count-best rows edges base weight cuts = (let more = count-push rows (row.Best edges base weight cuts) in omega arith)
 
-odd-walk : (rows : List Row) (v : ℕ) → walk_of (rows ++ row.Odd v ∷ []) place.Between ≡ walk (length rows + 1) (count_by is_odd rows + 1) stage.Between
-odd-walk rows v =
-    ap (λ (n : ℕ). walk n (count_by is_odd (rows ++ row.Odd v ∷ [])) stage.Between) (length_push rows (row.Odd v))
-    ∙ ap (λ (n : ℕ). walk (length rows + 1) n stage.Between) (count-odd rows v)
+odd-walk : (version : Version) (rows : List Row) (v : ℕ)
+    → walk_of (rows ++ row.Odd v ∷ []) (place.Between version) ≡ walk (length rows + 1) (count_by is_odd rows + 1) (stage.Between version)
+odd-walk version rows v =
+    ap (λ (n : ℕ). walk n (count_by is_odd (rows ++ row.Odd v ∷ [])) (stage.Between version)) (length_push rows (row.Odd v))
+    ∙ ap (λ (n : ℕ). walk (length rows + 1) n (stage.Between version)) (count-odd rows v)
 
 -- ---- one line
 
-walked-rows : (n : ℕ) (rows : List Row) (said : Line) → walked (at_row_end n rows said) ≡ walk_on_from_rows n (length rows) (count_by is_odd rows) said
-walked-rows n rows (line.Shot k) = walked-if (k == length rows) (Ok (reading rows place.InRow)) (Err (WrongShot n))
-walked-rows n rows (line.Odd k v) =
-    walked-if (k == length rows) (Ok (reading (rows ++ row.Odd v ∷ []) place.Between)) (Err (WrongShot n))
-    ∙ ap (λ (w : Walk). if k == length rows then Ok w else Err (WrongShot n)) (odd-walk rows v)
-walked-rows n rows line.Trace =
-    walked-if (has_none rows) (Err (BadLine n)) (Ok (reading rows place.Between))
-    ∙ ap (λ (b : Bool). if b then Err (BadLine n) else Ok (walk_of rows place.Between)) (none-length rows)
-walked-rows n rows (line.Done totals) =
+walked-rows : (n : ℕ) (version : Version) (rows : List Row) (said : Line)
+    → walked (at_row_end n version rows said) ≡ walk_on_from_rows n (length rows) (count_by is_odd rows) version said
+walked-rows n version rows (line.Shot k) =
+    walked-if (k == length rows) (Ok (reading rows (place.InRow version))) (Err (WrongShot n))
+walked-rows n version rows (line.Odd k v) =
+    walked-if (k == length rows) (Ok (reading (rows ++ row.Odd v ∷ []) (place.Between version))) (Err (WrongShot n))
+    ∙ ap (λ (w : Walk). if k == length rows then Ok w else Err (WrongShot n)) (odd-walk version rows v)
+walked-rows n version rows line.Trace =
+    walked-if (has_none rows) (Err (BadLine n)) (Ok (reading rows (place.Between version)))
+    ∙ ap (λ (b : Bool). if b then Err (BadLine n) else Ok (walk_of rows (place.Between version))) (none-length rows)
+walked-rows n version rows (line.Done totals) =
     walked-if (totals.rows == length rows && totals.odd == count_by is_odd rows) (Ok (reading rows (place.End totals))) (Err (BadLine n))
-walked-rows n rows line.Head = refl
-walked-rows n rows (line.Edges edges) = refl
-walked-rows n rows (line.Weight weight) = refl
-walked-rows n rows (line.Cut c) = refl
+walked-rows n version rows (line.Head other) = refl
+walked-rows n version rows (line.Edges edges) = refl
+walked-rows n version rows (line.Base base) = refl
+walked-rows n version rows (line.Weight weight) = refl
+walked-rows n version rows (line.Cut c) = refl
 
 -- behind a correction that ends there
-walked-best : (n : ℕ) (rows : List Row) (edges : List ℕ) (weight : ℕ) (cuts : List Cut) (said : Line)
-    → walked (at_row_end n (rows ++ row.Best edges weight cuts ∷ []) said) ≡ walk_on_from_rows n (length rows + 1) (count_by is_odd rows) said
-walked-best n rows edges weight cuts said =
-    walked-rows n (rows ++ row.Best edges weight cuts ∷ []) said
-    ∙ ap (λ (begun : ℕ). walk_on_from_rows n begun (count_by is_odd (rows ++ row.Best edges weight cuts ∷ [])) said) (length_push rows (row.Best edges weight cuts))
-    ∙ ap (λ (odd : ℕ). walk_on_from_rows n (length rows + 1) odd said) (count-best rows edges weight cuts)
+walked-best : (n : ℕ) (version : Version) (rows : List Row) (edges : List ℕ) (base weight : ℤ) (cuts : List Cut) (said : Line)
+    → walked (at_row_end n version (rows ++ row.Best edges base weight cuts ∷ []) said)
+    ≡ walk_on_from_rows n (length rows + 1) (count_by is_odd rows) version said
+walked-best n version rows edges base weight cuts said =
+    let all : List Row = rows ++ row.Best edges base weight cuts ∷ [] in
+    walked-rows n version all said
+    ∙ ap (λ (begun : ℕ). walk_on_from_rows n begun (count_by is_odd all) version said) (length_push rows (row.Best edges base weight cuts))
+    ∙ ap (λ (odd : ℕ). walk_on_from_rows n (length rows + 1) odd version said) (count-best rows edges base weight cuts)
 
 abbrev walk_from : ℕ → Walk → Line → Result Walk ReportFault
 walk_from n w said = walk_on n w.begun w.odd w.stage said
 
 walked-step : (n : ℕ) (rows : List Row) (here : Place) (said : Line) → walked (step n rows here said) ≡ walk_from n (walk_of rows here) said
-walked-step n rows place.Start line.Head = refl
+walked-step n rows place.Start (line.Head version) = refl
 walked-step n rows place.Start said = refl
-walked-step n rows place.InRow (line.Edges edges) = refl
-walked-step n rows place.InRow said = refl
-walked-step n rows (place.Listed edges) (line.Weight weight) = refl
+walked-step n rows (place.InRow One) (line.Edges edges) = refl
+walked-step n rows (place.InRow Two) (line.Edges edges) = refl
+walked-step n rows (place.InRow version) said = refl
+walked-step n rows (place.Listed edges) (line.Base base) = refl
 walked-step n rows (place.Listed edges) said = refl
-walked-step n rows (place.Cuts edges weight cuts) (line.Cut c) = refl
-walked-step n rows (place.Cuts edges weight cuts) said = walked-best n rows edges weight cuts said
-walked-step n rows place.Between said = walked-rows n rows said
+walked-step n rows (place.Based version edges base) (line.Weight weight) =
+    walked-if (may_weigh version weight) (Ok (reading rows (place.Cuts version edges base weight []))) (Err (BadLine n))
+walked-step n rows (place.Based version edges base) said = refl
+walked-step n rows (place.Cuts version edges base weight cuts) (line.Cut c) = refl
+walked-step n rows (place.Cuts version edges base weight cuts) said = walked-best n version rows edges base weight cuts said
+walked-step n rows (place.Between version) said = walked-rows n version rows said
 walked-step n rows (place.End totals) said = refl
 
 from_ok : (x : Result Reading ReportFault) (w : Walk) → walked x ≡ Ok w → (next : Reading) × (x ≡ Ok next) × (w ≡ walk_of next.rows next.place)
@@ -142,10 +155,11 @@ module _ (n : ℕ) (rest : List ℕ) (w : Walk) where
       go (place.End t) [] e = (let same : t ≡ totals = cc in rw same (refl, refl))
       go (place.End t) (b ∷ bytes) e = absurd cc
       go place.Start bytes e = absurd cc
-      go place.InRow bytes e = absurd cc
+      go (place.InRow version) bytes e = absurd cc
       go (place.Listed edges) bytes e = absurd cc
-      go (place.Cuts edges weight cuts) bytes e = absurd cc
-      go place.Between bytes e = absurd cc
+      go (place.Based version edges base) bytes e = absurd cc
+      go (place.Cuts version edges base weight cuts) bytes e = absurd cc
+      go (place.Between version) bytes e = absurd cc
 
   ended_err : (rows : List Row) (here : Place) (fault : ReportFault) → Err fault ≡ walk_end n (walk_of rows here).stage rest
       → ending n rows here rest ≡ Err fault
@@ -155,10 +169,11 @@ module _ (n : ℕ) (rest : List ℕ) (w : Walk) where
       go (place.End t) [] e = absurd cc
       go (place.End t) (b ∷ bytes) e = (let same : BadLine n ≡ fault = cc in ap Err same)
       go place.Start bytes e = (let same : Unfinished ≡ fault = cc in ap Err same)
-      go place.InRow bytes e = (let same : Unfinished ≡ fault = cc in ap Err same)
+      go (place.InRow version) bytes e = (let same : Unfinished ≡ fault = cc in ap Err same)
       go (place.Listed edges) bytes e = (let same : Unfinished ≡ fault = cc in ap Err same)
-      go (place.Cuts edges weight cuts) bytes e = (let same : Unfinished ≡ fault = cc in ap Err same)
-      go place.Between bytes e = (let same : Unfinished ≡ fault = cc in ap Err same)
+      go (place.Based version edges base) bytes e = (let same : Unfinished ≡ fault = cc in ap Err same)
+      go (place.Cuts version edges base weight cuts) bytes e = (let same : Unfinished ≡ fault = cc in ap Err same)
+      go (place.Between version) bytes e = (let same : Unfinished ≡ fault = cc in ap Err same)
 
   module _ (alone : parts rest ≡ rest ∷ []) where
     pub text_ends : (totals : Totals) → Ok totals ≡ walk_end n w.stage rest → Gives (position n rest w) (next_line.Done totals)

@@ -1,22 +1,24 @@
 -- The result of reading a text, stated by the reports that can be printed, and not by how lines are read: the report that
 -- was printed; or the first line with which no report begins any more; or that the text stops before the report does.
 use Rattle.std.specs.Prelude.{ℕ, ◌≡◌, ◌≢◌, ◌+◌, ◌<◌, ◌≤◌, ◌^◌, ◌==◌, ◌⊎◌, All, List, [], ◌∷◌, ◌++◌, length, codes, decimal, count_by, Result, Ok, Err}
-use Rattle.fb_report.specs.Texts.{line, head_text}
+use Rattle.fb_report.specs.Texts.{line}
 use Rattle.fb_verify.specs.declared.report_faults.ReportFault.{ReportFault}
 use Rattle.fb_verify.specs.declared.report_faults.ReportFault.TheVariants.{BadLine, WrongShot, Unfinished, TooLong, NoMemory}
 use Rattle.fb_verify.specs.declared.reports.Report.{Report}
-use Rattle.fb_verify.specs.ReadBack.{TracedRow, IsInRange, IsReportInRange, traced_text, report_text, report_with, rows_of}
+use Rattle.fb_verify.specs.declared.reports.Version.{Version}
+use Rattle.fb_verify.specs.ReadBack.{TracedRow, IsInRange, IsReportInRange, head_of, traced_text, report_text, report_with, rows_of}
 use Rattle.fb_verify.specs.Reports.{report_in}
 
 -- ---- reports
 
--- the text is the report of some rows, each with its events
+-- the text is the report, of either version, of some rows, each with its events
 pub record IsReport (text : List ℕ) : Type 0 where
+  pub version : Version
   pub traced : List TracedRow
   pub units : ℕ
   pub fusions : ℕ
-  pub in_range : IsReportInRange traced units fusions
-  pub printed : text ≡ report_text traced units fusions
+  pub in_range : IsReportInRange version traced units fusions
+  pub printed : text ≡ report_text version traced units fusions
 
 -- some report begins with this text
 pub record BeginsReport (text : List ℕ) : Type 0 where
@@ -25,11 +27,12 @@ pub record BeginsReport (text : List ℕ) : Type 0 where
 
 -- the text is the report of these rows, with these numbers of units and fusions
 pub record IsReportOf (report : Report) (text : List ℕ) : Type 0 where
+  pub version : Version
   pub traced : List TracedRow
   pub units : ℕ
   pub fusions : ℕ
-  pub in_range : IsReportInRange traced units fusions
-  pub printed : text ≡ report_text traced units fusions
+  pub in_range : IsReportInRange version traced units fusions
+  pub printed : text ≡ report_text version traced units fusions
   pub says : report ≡ report_with (rows_of traced) units fusions
 
 -- ---- lines
@@ -58,10 +61,11 @@ BeginsRow k here =
 
 -- a line that begins a row, behind whole rows, though not the one that comes next
 pub record IsOutOfTurn (prefix here : List ℕ) : Type 0 where
+  pub version : Version
   pub traced : List TracedRow
-  pub rows : All IsInRange traced
+  pub rows : All (IsInRange version) traced
   pub count : length traced ≤ 2 ^ 32
-  pub whole : prefix ≡ head_text ++ traced_text 0 traced
+  pub whole : prefix ≡ head_of version ++ traced_text version 0 traced
   pub shot : ℕ
   pub in_range : shot < 2 ^ 32
   pub row : BeginsRow shot here

@@ -2,7 +2,7 @@
 -- first line is the head, the last one says how many rows there are; between them are the rows of the shots, each
 -- of one line or of several, and lines that trace the run. A reading takes the lines one after another, each by what it
 -- says and by its place.
-use Rattle.std.specs.Prelude.{ℕ, ◌+◌, ◌*◌, ◌-◌, ◌^◌, ◌==◌, nat_lt, nat_le, Bool, true, false, ◌&&◌, if◌then◌else◌, List, [], ◌∷◌, ◌++◌, length, codes, count_by, Option, Some, None, option_map, option_and_then, Result, Ok, Err}
+use Rattle.std.specs.Prelude.{ℕ, zero, suc, ℤ, pos, negsuc, unsigned_abs, ◌+◌, ◌*◌, ◌-◌, ◌^◌, ◌==◌, nat_lt, nat_le, Bool, true, false, ◌&&◌, if◌then◌else◌, List, [], ◌∷◌, ◌++◌, length, codes, count_by, Option, Some, None, option_map, option_and_then, Result, Ok, Err}
 use Rattle.std.specs.List.{slice_split}
 use Rattle.std.specs.Str.{bytes_eq}
 use Rattle.fb_graph.specs.declared.parts.Row.{Row}
@@ -10,6 +10,8 @@ use Rattle.fb_graph.specs.declared.parts.Row.TheVariants as row
 use Rattle.fb_verify.specs.declared.report_faults.ReportFault.{ReportFault}
 use Rattle.fb_verify.specs.declared.report_faults.ReportFault.TheVariants.{BadLine, WrongShot, Unfinished, TooLong}
 use Rattle.fb_verify.specs.declared.reports.Report.{Report}
+use Rattle.fb_verify.specs.declared.reports.Version.{Version}
+use Rattle.fb_verify.specs.declared.reports.Version.TheVariants.{One, Two}
 use Rattle.fb_verify.specs.declared.lines.Line.{Line}
 use Rattle.fb_verify.specs.declared.lines.Line.TheVariants as line
 use Rattle.fb_verify.specs.Places.{Place}
@@ -45,6 +47,23 @@ abbrev pub first_number : ℕ → List (List ℕ) → Option (ℕ × List (List 
 first_number bound [] = None
 first_number bound (w ∷ ws) = option_map (λ n. (n, ws)) (below bound (number_of w))
 
+-- the number with a minus sign, unless it is 0
+abbrev pub negative : ℕ → Option ℤ
+negative zero = None
+negative (suc n) = Some (negsuc n)
+
+-- the number that a word writes and that without its sign is below the bound; only one that isn't 0 has a minus sign
+abbrev pub signed_number : ℕ → List ℕ → Option ℤ
+signed_number bound [] = None
+signed_number bound (c ∷ digits) =
+    if c == 45 then option_and_then negative (below bound (number_of digits))
+    else option_map pos (below bound (number_of (c ∷ digits)))
+
+-- the number with its sign, without it below the bound, that the first word writes, and the words after it
+abbrev pub first_signed : ℕ → List (List ℕ) → Option (ℤ × List (List ℕ))
+first_signed bound [] = None
+first_signed bound (w ∷ ws) = option_map (λ z. (z, ws)) (signed_number bound w)
+
 -- the words after a first word, which is to be this one
 abbrev pub after_word : List ℕ → List (List ℕ) → Option (List (List ℕ))
 after_word word [] = None
@@ -65,6 +84,10 @@ all_numbers (w ∷ ws) = option_and_then (λ n. onto_numbers n (all_numbers ws))
 abbrev pub with_number : {X : Type 0} → ℕ → List (List ℕ) → (ℕ → List (List ℕ) → Option X) → Option X
 with_number bound words go_on = option_and_then (λ p. go_on p.0 p.1) (first_number bound words)
 
+-- a line goes on with a number with its sign, without it below the bound
+abbrev pub with_signed : {X : Type 0} → ℕ → List (List ℕ) → (ℤ → List (List ℕ) → Option X) → Option X
+with_signed bound words go_on = option_and_then (λ p. go_on p.0 p.1) (first_signed bound words)
+
 -- a line goes on with this word
 abbrev pub with_word : {X : Type 0} → List ℕ → List (List ℕ) → (List (List ℕ) → Option X) → Option X
 with_word word words go_on = option_and_then go_on (after_word word words)
@@ -74,9 +97,12 @@ abbrev pub at_end : Line → List (List ℕ) → Option Line
 at_end said [] = Some said
 at_end said (w ∷ ws) = None
 
--- fusion-report 1
+-- fusion-report 1 or fusion-report 2
 unfoldable pub head_line : List (List ℕ) → Option Line
-head_line words = with_word (codes "1") words (at_end line.Head)
+head_line [] = None
+head_line (w ∷ ws) =
+    if bytes_eq w (codes "1") then at_end (line.Head One) ws
+    else (if bytes_eq w (codes "2") then at_end (line.Head Two) ws else None)
 
 -- shot K or shot K odd V: what follows the number
 unfoldable pub row_kind : ℕ → List (List ℕ) → Option Line
@@ -90,9 +116,13 @@ shot_line words = with_number (2 ^ 32) words row_kind
 unfoldable pub edges_line : List (List ℕ) → Option Line
 edges_line words = option_map line.Edges (all_numbers words)
 
+-- base B
+unfoldable pub base_line : List (List ℕ) → Option Line
+base_line words = with_signed (2 ^ 63) words (λ b. at_end (line.Base b))
+
 -- weight W
 unfoldable pub weight_line : List (List ℕ) → Option Line
-weight_line words = with_number (2 ^ 64) words (λ w. at_end (line.Weight w))
+weight_line words = with_signed (2 ^ 64) words (λ w. at_end (line.Weight w))
 
 -- a cut of this value, if it is at least 1
 abbrev pub cut_of : ℕ → List ℕ → Option Line
@@ -125,16 +155,17 @@ line_of (w ∷ ws) =
     if bytes_eq w (codes "fusion-report") then head_line ws
     else (if bytes_eq w (codes "shot") then shot_line ws
     else (if bytes_eq w (codes "edges") then edges_line ws
+    else (if bytes_eq w (codes "base") then base_line ws
     else (if bytes_eq w (codes "weight") then weight_line ws
     else (if bytes_eq w (codes "cut") then cut_line ws
     else (if bytes_eq w (codes "took") then trace_line ws
     else (if bytes_eq w (codes "gave") then trace_line ws
-    else (if bytes_eq w (codes "done") then done_line ws else None)))))))
+    else (if bytes_eq w (codes "done") then done_line ws else None))))))))
 
 -- ---- line after line
 
 abbrev pub is_odd : Row → Bool
-is_odd (row.Best edges weight cuts) = false
+is_odd (row.Best edges base weight cuts) = false
 is_odd (row.Odd v) = true
 
 abbrev pub has_none : List Row → Bool
@@ -149,24 +180,41 @@ reading rows place = record { rows = rows; place = place }
 abbrev pub as_next : ℕ → List Row → ℕ → Reading → Result Reading ReportFault
 as_next n rows k next = if k == length rows then Ok next else Err (WrongShot n)
 
--- line n behind whole rows, by what it says
-abbrev pub at_row_end : ℕ → List Row → Line → Result Reading ReportFault
-at_row_end n rows (line.Shot k) = as_next n rows k (reading rows place.InRow)
-at_row_end n rows (line.Odd k v) = as_next n rows k (reading (rows ++ row.Odd v ∷ []) place.Between)
-at_row_end n rows line.Trace = if has_none rows then Err (BadLine n) else Ok (reading rows place.Between)
-at_row_end n rows (line.Done totals) =
+-- line n behind whole rows of a report of this version, by what it says
+abbrev pub at_row_end : ℕ → Version → List Row → Line → Result Reading ReportFault
+at_row_end n version rows (line.Shot k) = as_next n rows k (reading rows (place.InRow version))
+at_row_end n version rows (line.Odd k v) = as_next n rows k (reading (rows ++ row.Odd v ∷ []) (place.Between version))
+at_row_end n version rows line.Trace =
+    if has_none rows then Err (BadLine n) else Ok (reading rows (place.Between version))
+at_row_end n version rows (line.Done totals) =
     if totals.rows == length rows && totals.odd == count_by is_odd rows then Ok (reading rows (place.End totals))
     else Err (BadLine n)
-at_row_end n rows said = Err (BadLine n)
+at_row_end n version rows said = Err (BadLine n)
+
+-- where the line after the edges of a row is: no line says the base in version 1, where it is 0
+abbrev pub after_edges : Version → List ℕ → Place
+after_edges One edges = place.Based One edges (pos 0)
+after_edges Two edges = place.Listed edges
+
+-- A row may have this weight, which is below 2^64 without its sign: in version 1 it isn't negative, in version 2 it is
+-- below 2^63 without its sign.
+abbrev pub may_weigh : Version → ℤ → Bool
+may_weigh One (pos weight) = true
+may_weigh One (negsuc weight) = false
+may_weigh Two weight = nat_lt (unsigned_abs weight) (2 ^ 63)
 
 -- line n at its place, by what it says
 abbrev pub step : ℕ → List Row → Place → Line → Result Reading ReportFault
-step n rows place.Start line.Head = Ok (reading rows place.Between)
-step n rows place.InRow (line.Edges edges) = Ok (reading rows (place.Listed edges))
-step n rows (place.Listed edges) (line.Weight weight) = Ok (reading rows (place.Cuts edges weight []))
-step n rows (place.Cuts edges weight cuts) (line.Cut c) = Ok (reading rows (place.Cuts edges weight (cuts ++ c ∷ [])))
-step n rows (place.Cuts edges weight cuts) said = at_row_end n (rows ++ row.Best edges weight cuts ∷ []) said
-step n rows place.Between said = at_row_end n rows said
+step n rows place.Start (line.Head version) = Ok (reading rows (place.Between version))
+step n rows (place.InRow version) (line.Edges edges) = Ok (reading rows (after_edges version edges))
+step n rows (place.Listed edges) (line.Base base) = Ok (reading rows (place.Based Two edges base))
+step n rows (place.Based version edges base) (line.Weight weight) =
+    if may_weigh version weight then Ok (reading rows (place.Cuts version edges base weight [])) else Err (BadLine n)
+step n rows (place.Cuts version edges base weight cuts) (line.Cut c) =
+    Ok (reading rows (place.Cuts version edges base weight (cuts ++ c ∷ [])))
+step n rows (place.Cuts version edges base weight cuts) said =
+    at_row_end n version (rows ++ row.Best edges base weight cuts ∷ []) said
+step n rows (place.Between version) said = at_row_end n version rows said
 step n rows place said = Err (BadLine n)
 
 -- line n, if it says something

@@ -1,11 +1,10 @@
 //! The check of a row.
 
-ghost use Rattle.std.specs.Prelude.{◌≡◌, ◌↔◌, IfOk, IfSome};
+ghost use Rattle.std.specs.Prelude.{◌≡◌, ◌<◌, ◌↔◌, All, IfOk, IfSome, length};
 ghost use Rattle.fb_graph.specs.Answers.{IsRight};
 ghost use Rattle.fb_graph.specs.Components.{IsFirstOdd};
 ghost use Rattle.fb_graph.specs.Limits.{IsShot, problem_of};
-ghost use Rattle.fb_graph.specs.ShotGraphs.{shot_problem};
-ghost use Rattle.fb_verify.specs.Verdicts.{HasPositiveValues, IsLeastWeight, IsOddVerdict, IsVerdict, best_verdict};
+ghost use Rattle.fb_verify.specs.Verdicts.{HasPositiveValues, IsLeastWeight, IsOddVerdict, IsVerdict, certificate_fault, choice_fault, sums_fault};
 ghost use Rattle.fb_verify.specs.declared.verdicts.Verdict.TheVariants.{Good};
 
 use crate::cuts::first_cut_fault;
@@ -26,8 +25,8 @@ pub fn check_row(alloc: Global, graph: &Graph, shot: &Shot, row: &Row) -> Result
     requires shot { IsShot graph.now shot.now }
     requires values { HasPositiveValues row.now }
     ensures verdict { IfOk result (IsVerdict graph.now shot.now row.now) }
-    ensures good { IfOk result (λ v. (v ≡ Good) ↔ IsRight (shot_problem graph.now shot.now) row.now) }
-    ensures least { IfOk result (λ v. v ≡ Good → IsLeastWeight (shot_problem graph.now shot.now) row.now) }
+    ensures good { IfOk result (λ v. (v ≡ Good) ↔ IsRight graph.now shot.now row.now) }
+    ensures least { IfOk result (λ v. v ≡ Good → IsLeastWeight graph.now shot.now row.now) }
 {
     Judge::new(graph).check_row(alloc, shot, row)
 }
@@ -64,10 +63,11 @@ impl<'a> Judge<'a> {
         requires shot { IsShot self.old shot.now }
         requires values { HasPositiveValues row.now }
         ensures verdict { IfOk result (IsVerdict self.old shot.now row.now) }
-        ensures good { IfOk result (λ v. (v ≡ Good) ↔ IsRight (shot_problem self.old shot.now) row.now) }
-        ensures least { IfOk result (λ v. v ≡ Good → IsLeastWeight (shot_problem self.old shot.now) row.now) }
+        ensures good { IfOk result (λ v. (v ≡ Good) ↔ IsRight self.old shot.now row.now) }
+        ensures least { IfOk result (λ v. v ≡ Good → IsLeastWeight self.old shot.now row.now) }
         ensures same { self.new ≡ self.old }
     {
+        self.graph.limits();
         self.find_verdict(alloc, shot, row)
     }
 
@@ -80,16 +80,23 @@ impl<'a> Judge<'a> {
         match row {
             Row::Best {
                 edges,
+                base,
                 weight,
                 cuts,
-            } => check_best(
-                alloc,
-                self.graph,
-                shot,
-                edges.as_slice(),
-                *weight,
-                cuts.as_slice(),
-            ),
+            } => {
+                let edges = edges.as_slice();
+                if let Some(fault) = choice_fault(alloc, self.graph, shot, edges)? {
+                    return Ok(fault);
+                }
+                if let Some(fault) = sums_fault(self.graph, shot, edges, *base, *weight) {
+                    return Ok(fault);
+                }
+                let cuts = cuts.as_slice();
+                if let Some(fault) = certificate_fault(alloc, self.graph, shot, *weight, cuts)? {
+                    return Ok(fault);
+                }
+                Ok(Verdict::Good)
+            }
             Row::Odd(vertex) => self.check_odd(alloc, shot, *vertex),
         }
     }
@@ -137,40 +144,71 @@ fn compare_odd(graph: &Graph, shot: &Shot, first: Option<u32>, vertex: u32) -> V
     }
 }
 
-/// What a check finds of a correction with its certificate.
-fn check_best(
+/// The first fault of the edges of a correction.
+fn choice_fault(
     alloc: Global,
     graph: &Graph,
     shot: &Shot,
     edges: &[u32],
-    weight: u64,
-    cuts: &[Cut],
-) -> Result<Verdict, NoMemory>
+) -> Result<Option<Verdict>, NoMemory>
     requires { IsShot graph.now shot.now }
-    ensures { IfOk result (λ v. v ≡ best_verdict graph.now shot.now edges.now weight cuts.now) }
+    ensures { IfOk result (λ f. f ≡ choice_fault graph.now shot.now edges.now) }
 {
     if let Some(edge) = beyond(edges, graph.edge_count()) {
-        return Ok(Verdict::EdgeOutOfRange(edge));
+        return Ok(Some(Verdict::EdgeOutOfRange(edge)));
     }
     if let Some(edge) = fall(edges) {
-        return Ok(Verdict::EdgesNotRising(edge));
+        return Ok(Some(Verdict::EdgesNotRising(edge)));
     }
     if let Some(vertex) = wrong_parity(alloc, graph, shot, edges)? {
-        return Ok(Verdict::WrongParity(vertex));
+        return Ok(Some(Verdict::WrongParity(vertex)));
     }
+    Ok(None)
+}
+
+/// The first fault of the weight and the base of a correction.
+fn sums_fault(
+    graph: &Graph,
+    shot: &Shot,
+    edges: &[u32],
+    base: i128,
+    weight: i128,
+) -> Option<Verdict>
+    requires shot { IsShot graph.now shot.now }
+    requires within { All (λ k. k < length graph.now.edges) edges.now }
+    ensures { result ≡ sums_fault graph.now shot.now edges.now base weight }
+{
     let sum = sum_of_weights(graph, shot, edges);
-    if u128::from(weight) != sum {
-        return Ok(Verdict::WeightNotSum(weight, sum));
+    if weight != sum {
+        return Some(Verdict::WeightNotSum(weight, sum));
     }
+    let negative = i128::from(shot.base(graph));
+    if base != negative {
+        return Some(Verdict::BaseDiffers(base, negative));
+    }
+    None
+}
+
+/// The first fault of the certificate of a correction.
+fn certificate_fault(
+    alloc: Global,
+    graph: &Graph,
+    shot: &Shot,
+    weight: i128,
+    cuts: &[Cut],
+) -> Result<Option<Verdict>, NoMemory>
+    requires { IsShot graph.now shot.now }
+    ensures { IfOk result (λ f. f ≡ certificate_fault graph.now shot.now weight cuts.now) }
+{
     if let Some(fault) = first_cut_fault(graph, shot, cuts) {
-        return Ok(fault);
+        return Ok(Some(fault));
     }
     if let Some(edge) = overloaded(alloc, graph, shot, cuts)? {
-        return Ok(Verdict::Overloaded(edge));
+        return Ok(Some(Verdict::Overloaded(edge)));
     }
-    let total = sum_of_values(cuts);
-    if u128::from(weight) != total {
-        return Ok(Verdict::SumDiffers(weight, total));
+    let total = i128::from(shot.base(graph)) + sum_of_values(cuts) as i128;
+    if weight != total {
+        return Ok(Some(Verdict::SumDiffers(weight, total)));
     }
-    Ok(Verdict::Good)
+    Ok(None)
 }

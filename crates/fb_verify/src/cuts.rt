@@ -11,6 +11,7 @@ use fb_graph::{Cut, Graph, Shot};
 
 /// The first fault of the first cut that has one.
 pub(crate) fn first_cut_fault(graph: &Graph, shot: &Shot, cuts: &[Cut]) -> Option<Verdict>
+    requires { IsShot graph.now shot.now }
     ensures { result ≡ cuts_fault graph.now shot.now 0 [] cuts.now }
 {
     let mut before: &[u32] = &[];
@@ -34,6 +35,7 @@ fn fault_of_cut(
     before: &[u32],
     vertices: &[u32],
 ) -> Option<Verdict>
+    requires { IsShot graph.now shot.now }
     ensures { result ≡ cut_fault graph.now shot.now j before.now vertices.now }
 {
     if vertices.is_empty() {
@@ -48,7 +50,7 @@ fn fault_of_cut(
     if let Some(vertex) = first_virtual(graph, vertices) {
         return Some(Verdict::CutHoldsVirtual(vertex));
     }
-    if !has_odd_defects(shot, vertices) {
+    if !has_odd_defects(graph, shot, vertices) {
         return Some(Verdict::CutEven(j));
     }
     None

@@ -1,7 +1,7 @@
 //! The rows that the lines of a report say.
 
 ghost use Rattle.std.specs.Prelude.{◌≡◌, ◌∷◌, ◌++◌, [], None, IfOk, IfErr};
-ghost use Rattle.fb_verify.specs.InternalGathers.{closed, gather, gathered, weighed, with_cut};
+ghost use Rattle.fb_verify.specs.InternalGathers.{based, closed, gather, gathered, weighed, with_cut};
 ghost use Rattle.fb_verify.specs.declared.report_faults.ReportFault.TheVariants.{NoMemory};
 
 use crate::lines::Line;
@@ -14,7 +14,8 @@ use std::alloc::Global;
 #[derive(Drop)]
 pub struct Correction {
     pub edges: NumberList,
-    pub weight: u64,
+    pub base: i128,
+    pub weight: i128,
     pub cuts: CutList,
 }
 
@@ -45,13 +46,16 @@ impl Gathered {
         let Gathered { rows, last } = self;
         match said {
             Line::Edges(edges) => {
-                let weight = 0;
-                let cuts = CutList::from_vec(Vec::new(alloc));
                 let last = Some(Correction {
                     edges,
-                    weight,
-                    cuts,
+                    base: 0,
+                    weight: 0,
+                    cuts: CutList::from_vec(Vec::new(alloc)),
                 });
+                Ok(Gathered { rows, last })
+            }
+            Line::Base(base) => {
+                let last = based(base, last);
                 Ok(Gathered { rows, last })
             }
             Line::Weight(weight) => {
@@ -66,7 +70,7 @@ impl Gathered {
                 let rows = push_row(closed(rows, last)?, Row::Odd(vertex))?;
                 Ok(Gathered { rows, last: None })
             }
-            Line::Head | Line::Shot(_) | Line::Trace | Line::Done(_) => {
+            Line::Head(_) | Line::Shot(_) | Line::Trace | Line::Done(_) => {
                 let rows = closed(rows, last)?;
                 Ok(Gathered { rows, last: None })
             }
@@ -84,6 +88,7 @@ fn closed(rows: RowList, last: Option<Correction>) -> Result<RowList, ReportFaul
         Some(
             Correction {
                 edges,
+                base,
                 weight,
                 cuts,
             },
@@ -91,6 +96,7 @@ fn closed(rows: RowList, last: Option<Correction>) -> Result<RowList, ReportFaul
             rows,
             Row::Best {
                 edges,
+                base,
                 weight,
                 cuts,
             },
@@ -98,13 +104,37 @@ fn closed(rows: RowList, last: Option<Correction>) -> Result<RowList, ReportFaul
     }
 }
 
-/// The correction with this weight.
-fn weighed(weight: u64, last: Option<Correction>) -> Option<Correction>
-    ensures { result ≡ weighed weight last }
+/// The correction with this base.
+fn based(base: i128, last: Option<Correction>) -> Option<Correction>
+    ensures { result ≡ based base last }
 {
-    let Correction { edges, cuts, .. } = last?;
+    let Correction {
+        edges,
+        weight,
+        cuts,
+        ..
+    } = last?;
     Some(Correction {
         edges,
+        base,
+        weight,
+        cuts,
+    })
+}
+
+/// The correction with this weight.
+fn weighed(weight: i128, last: Option<Correction>) -> Option<Correction>
+    ensures { result ≡ weighed weight last }
+{
+    let Correction {
+        edges,
+        base,
+        cuts,
+        ..
+    } = last?;
+    Some(Correction {
+        edges,
+        base,
         weight,
         cuts,
     })
@@ -120,6 +150,7 @@ fn with_cut(cut: Cut, last: Option<Correction>) -> Result<Option<Correction>, Re
         Some(
             Correction {
                 edges,
+                base,
                 weight,
                 cuts,
             },
@@ -127,6 +158,7 @@ fn with_cut(cut: Cut, last: Option<Correction>) -> Result<Option<Correction>, Re
             let cuts = push_cut(cuts, cut)?;
             Ok(Some(Correction {
                 edges,
+                base,
                 weight,
                 cuts,
             }))

@@ -1,7 +1,7 @@
 //! The words of a line of a report.
 
 ghost use Rattle.std.specs.Prelude.{◌≡◌, ◌+◌, ◌^◌, ◌≤◌, ◌∷◌, [], MatchOption, IfOk, IfSome};
-ghost use Rattle.fb_verify.specs.Reports.{words_of, number_from, number_of, below, first_number, after_word, all_numbers};
+ghost use Rattle.fb_verify.specs.Reports.{words_of, number_from, number_of, below, negative, signed_number, first_number, first_signed, after_word, all_numbers};
 ghost use Rattle.fb_verify.specs.InternalWordsLeft.{has_no_word};
 
 use crate::splitting::split_once;
@@ -64,6 +64,15 @@ impl<'a> Words<'a> {
         Some((number as u32, words))
     }
 
+    /// The number that the first word writes, of at most `most` without its sign, and the words after it.
+    pub fn first_signed(self, most: u64) -> Option<(i128, Words<'a>)>
+        ensures { result ≡ first_signed (most + 1) self.entry }
+    {
+        let (word, words) = self.split_first()?;
+        let number = signed_number(word, most)?;
+        Some((number, words))
+    }
+
     /// The words after the first one, which is to be this one.
     pub fn after_word(self, wanted: &[u8]) -> Option<Words<'a>>
         ensures { result ≡ after_word wanted.now self.entry }
@@ -106,6 +115,31 @@ fn number(word: &[u8], most: u64) -> Option<u64>
         [] => None,
         [b'0', _, ..] => None,
         _ => digits(word, most),
+    }
+}
+
+/// The number that a word writes, of at most `most` without its sign: only a number that isn't 0 has a minus sign.
+fn signed_number(word: &[u8], most: u64) -> Option<i128>
+    ensures { result ≡ signed_number (most + 1) word.now }
+{
+    match word {
+        [] => None,
+        [b'-', digits @ ..] => negative(number(digits, most)?),
+        _ => {
+            let number = number(word, most)?;
+            Some(i128::from(number))
+        }
+    }
+}
+
+/// The number with a minus sign, unless it is 0.
+fn negative(number: u64) -> Option<i128>
+    ensures { result ≡ negative number }
+{
+    if number == 0 {
+        None
+    } else {
+        Some(-i128::from(number))
     }
 }
 

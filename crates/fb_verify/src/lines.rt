@@ -1,27 +1,32 @@
 //! What a line of a report says by itself.
 
 ghost use Rattle.std.specs.Prelude.{◌≡◌, IfOk};
-ghost use Rattle.fb_verify.specs.Reports.{words_of, head_line, row_kind, shot_line, edges_line, weight_line, cut_line, trace_line, done_line, line_of, at_end};
-ghost use Rattle.fb_verify.specs.InternalLines.{done_after_rows, line_after_row, line_after_shot};
+ghost use Rattle.fb_verify.specs.Reports.{words_of, head_line, row_kind, shot_line, edges_line, base_line, weight_line, cut_line, trace_line, done_line, line_of, at_end};
+ghost use Rattle.fb_verify.specs.InternalLines.{done_after_rows, line_after_row, line_after_shot, line_after_sums};
 
 use crate::line_words::Words;
-use crate::reports::Totals;
+use crate::reports::{Totals, Version};
 use fb_graph::{Cut, NoMemory, NumberList};
 use std::alloc::Global;
+
+/// The greatest number, without its sign, of a report whose weights have signs.
+const MOST_SIGNED: u64 = i64::MAX as u64;
 
 /// What a line says.
 #[derive(Drop)]
 pub enum Line {
-    /// The text is a report in the format's first version.
-    Head,
+    /// The text is a report in this version of the format.
+    Head(Version),
     /// The row of this shot follows.
     Shot(u32),
     /// The row of this shot names the component of this vertex.
     Odd(u32, u32),
     /// The edges of a correction.
     Edges(NumberList),
-    /// The weight of a correction.
-    Weight(u64),
+    /// The sum of all negative weights, which is below 2^63 without its sign.
+    Base(i128),
+    /// The weight of a correction, which is below 2^64 without its sign.
+    Weight(i128),
     /// A cut of a correction's certificate.
     Cut(Cut),
     /// An event of the run.
@@ -41,8 +46,14 @@ fn at_end(said: Line, words: Words) -> Option<Line>
 fn head_line(words: Words) -> Option<Line>
     ensures { result ≡ head_line words.entry }
 {
-    let words = words.after_word(b"1")?;
-    at_end(Line::Head, words)
+    let (word, words) = words.split_first()?;
+    if word == b"1".as_slice() {
+        at_end(Line::Head(Version::One), words)
+    } else if word == b"2".as_slice() {
+        at_end(Line::Head(Version::Two), words)
+    } else {
+        None
+    }
 }
 
 /// The line of a shot, after its number.
@@ -78,11 +89,19 @@ fn edges_line(alloc: Global, words: Words) -> Result<Option<Line>, NoMemory>
     }
 }
 
+#[tactic(auto, unfolding(crate::specs::Reports::base_line))]
+fn base_line(words: Words) -> Option<Line>
+    ensures { result ≡ base_line words.entry }
+{
+    let (base, words) = words.first_signed(MOST_SIGNED)?;
+    at_end(Line::Base(base), words)
+}
+
 #[tactic(auto, unfolding(crate::specs::Reports::weight_line))]
 fn weight_line(words: Words) -> Option<Line>
     ensures { result ≡ weight_line words.entry }
 {
-    let (weight, words) = words.first_number(u64::MAX)?;
+    let (weight, words) = words.first_signed(u64::MAX)?;
     at_end(Line::Weight(weight), words)
 }
 
@@ -156,9 +175,20 @@ fn line_after_shot(alloc: Global, word: &[u8], words: Words) -> Result<Option<Li
 {
     if word == b"edges".as_slice() {
         edges_line(alloc, words)
+    } else if word == b"base".as_slice() {
+        Ok(base_line(words))
     } else if word == b"weight".as_slice() {
         Ok(weight_line(words))
-    } else if word == b"cut".as_slice() {
+    } else {
+        line_after_sums(alloc, word, words)
+    }
+}
+
+/// What a line says after its first word, if it is one of a cut or behind a row.
+fn line_after_sums(alloc: Global, word: &[u8], words: Words) -> Result<Option<Line>, NoMemory>
+    ensures { IfOk result (λ said. said ≡ line_after_sums word.now words.entry) }
+{
+    if word == b"cut".as_slice() {
         cut_line(alloc, words)
     } else {
         Ok(line_after_row(word, words))

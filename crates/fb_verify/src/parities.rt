@@ -2,7 +2,9 @@
 
 ghost use Rattle.std.specs.Prelude.{◌≡◌, ◌<◌, ◌++◌, All, IfOk, OnOk, length, not};
 ghost use Rattle.std.specs.List.{find};
+ghost use Rattle.std.specs.List.Sorted.{IsStrictlyIncreasing};
 ghost use Rattle.fb_graph.specs.Limits.{IsShot, problem_of};
+ghost use Rattle.fb_graph.specs.Signs.{shifted_defects};
 ghost use Rattle.fb_graph.specs.Parity.{is_in, is_odd_count};
 ghost use Rattle.fb_verify.specs.InternalMarks.{ends_of};
 ghost use Rattle.fb_verify.specs.Verdicts.{has_wrong_parity};
@@ -78,20 +80,33 @@ pub(crate) fn first_virtual(graph: &Graph, vertices: &[u32]) -> Option<u32>
     None
 }
 
-/// Whether an odd number of the vertices are defects.
-pub(crate) fn has_odd_defects(shot: &Shot, vertices: &[u32]) -> bool
-    ensures { result ≡ is_odd_count (is_in shot.now.defects) vertices.now }
+/// Whether an odd number of the vertices are shifted defects.
+pub(crate) fn has_odd_defects(graph: &Graph, shot: &Shot, vertices: &[u32]) -> bool
+    requires { IsShot graph.now shot.now }
+    ensures { result ≡ is_odd_count (is_in (shifted_defects graph.now shot.now)) vertices.now }
 {
     let mut odd = false;
     for vertex in vertices {
-        odd = odd != is_defect(shot, *vertex);
+        odd = odd != is_shifted(graph, shot, *vertex);
     }
     odd
 }
 
-/// Whether a vertex is a defect.
-fn is_defect(shot: &Shot, vertex: u32) -> bool
-    ensures { result ≡ is_in shot.now.defects vertex }
+/// Whether a vertex is a shifted defect: an odd number of defects and of ends of edges that weigh less than 0 are there.
+/// It takes the logarithm of how many there are.
+fn is_shifted(graph: &Graph, shot: &Shot, vertex: u32) -> bool
+    requires { IsShot graph.now shot.now }
+    ensures { result ≡ is_in (shifted_defects graph.now shot.now) vertex }
 {
-    shot.as_slice().binary_search(&vertex).is_ok()
+    graph.limits();
+    let turned = is_listed(graph.turned(), vertex) != is_listed(shot.turned(), vertex);
+    is_listed(shot.as_slice(), vertex) != turned
+}
+
+/// Whether a strictly rising list holds the number.
+fn is_listed(numbers: &[u32], number: u32) -> bool
+    requires { IsStrictlyIncreasing numbers.now }
+    ensures { result ≡ is_in numbers.now number }
+{
+    numbers.binary_search(&number).is_ok()
 }

@@ -3,6 +3,15 @@ ghost use Rattle.std.specs.Prelude.{◌≡◌, [], ◌∷◌, ◌++◌, length, 
 use fb_graph::{NoMemory, Row};
 use std::marker::Model;
 
+/// A version of the format of reports, as the first line names it.
+#[derive(Clone, Copy)]
+pub enum Version {
+    /// `fusion-report 1`: no weight is negative, and a row has no base line. Its base is 0.
+    One,
+    /// `fusion-report 2`: weights have signs, and a row of a correction has a base line.
+    Two,
+}
+
 /// What a report says.
 #[derive(Drop)]
 pub struct Report {

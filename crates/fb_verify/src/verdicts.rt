@@ -14,7 +14,9 @@ pub enum Verdict {
     /// The least real vertex at which the parity of the edges isn't the shot's.
     WrongParity(u32),
     /// The row's weight, and the sum of what its edges weigh for the shot.
-    WeightNotSum(u64, u128),
+    WeightNotSum(i128, i128),
+    /// The row's base, and the sum of what all edges weigh for the shot that weigh less than 0.
+    BaseDiffers(i128, i128),
     /// A cut without vertices.
     CutEmpty(u64),
     /// A cut's first vertex that the graph doesn't have.
@@ -23,12 +25,12 @@ pub enum Verdict {
     CutsNotRising(u64),
     /// A cut's first virtual vertex.
     CutHoldsVirtual(u32),
-    /// A cut with an even number of defects.
+    /// A cut with an even number of shifted defects.
     CutEven(u64),
-    /// The least edge that the cuts load above what it weighs for the shot.
+    /// The least edge that the cuts load above what it weighs for the shot without its sign.
     Overloaded(u32),
-    /// The row's weight, and the sum of the cuts' values.
-    SumDiffers(u64, u128),
+    /// The row's weight, and the sum of its base and of the cuts' values.
+    SumDiffers(i128, i128),
     /// The vertex of an odd row that isn't the least of the first odd component.
     OddWrong(u32),
 }
@@ -38,7 +40,7 @@ pub enum Verdict {
 pub enum Numbers {
     Nothing,
     One(u64),
-    Two(u64, u128),
+    Two(i128, i128),
 }
 
 impl Verdict {
@@ -59,6 +61,7 @@ impl Verdict {
             Verdict::EdgesNotRising(_) => "bad EdgesNotRising",
             Verdict::WrongParity(_) => "bad WrongParity",
             Verdict::WeightNotSum(_, _) => "bad WeightNotSum",
+            Verdict::BaseDiffers(_, _) => "bad BaseDiffers",
             Verdict::CutEmpty(_) => "bad CutEmpty",
             Verdict::VertexOutOfRange(_) => "bad VertexOutOfRange",
             Verdict::CutsNotRising(_) => "bad CutsNotRising",
@@ -80,6 +83,7 @@ impl Verdict {
             Verdict::EdgesNotRising(e) => Numbers::One(u64::from(e)),
             Verdict::WrongParity(v) => Numbers::One(u64::from(v)),
             Verdict::WeightNotSum(weight, sum) => Numbers::Two(weight, sum),
+            Verdict::BaseDiffers(base, sum) => Numbers::Two(base, sum),
             Verdict::CutEmpty(j) => Numbers::One(j),
             Verdict::VertexOutOfRange(v) => Numbers::One(u64::from(v)),
             Verdict::CutsNotRising(j) => Numbers::One(j),

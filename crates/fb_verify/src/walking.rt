@@ -1,11 +1,12 @@
 //! Which line may follow which in a report.
 
 ghost use Rattle.std.specs.Prelude.{◌≡◌, ◌≤◌, ◌==◌, ◌&&◌, IfOk};
-ghost use Rattle.fb_verify.specs.InternalWalks.{walk, walk_on, walk_on_from_rows, walk_end};
+ghost use Rattle.fb_verify.specs.InternalWalks.{stage_after_edges, walk, walk_on, walk_on_from_rows, walk_end};
+ghost use Rattle.fb_verify.specs.Reports.{may_weigh};
 
 use crate::lines::Line;
 use crate::report_faults::ReportFault;
-use crate::reports::Totals;
+use crate::reports::{Totals, Version};
 
 /// What the next line of a report follows.
 #[derive(Clone, Copy)]
@@ -13,13 +14,15 @@ pub enum Stage {
     /// It is the first line.
     Start,
     /// It follows the line of a shot whose row is to come.
-    InRow,
-    /// It follows the edges of a row.
+    InRow(Version),
+    /// It follows the edges of a row, and is to say the row's base.
     Listed,
+    /// It follows the base of a row, or its edges if no line says the base.
+    Based(Version),
     /// It follows the weight of a row, or one of its cuts.
-    Cuts,
+    Cuts(Version),
     /// It follows whole rows, or none, and no line of a row.
-    Between,
+    Between(Version),
     /// It follows the done line.
     End(Totals),
 }
@@ -52,34 +55,44 @@ impl Walk {
         ensures fewer { IfOk result (λ w. w.odd ≤ w.begun) }
     {
         match (self.stage, said) {
-            (Stage::Start, Line::Head) => Ok(self.at(Stage::Between)),
-            (Stage::InRow, Line::Edges(_)) => Ok(self.at(Stage::Listed)),
-            (Stage::Listed, Line::Weight(_)) => Ok(self.at(Stage::Cuts)),
-            (Stage::Cuts, Line::Cut(_)) => Ok(self),
-            (Stage::Cuts | Stage::Between, said) => self.take_after_rows(number, said),
+            (Stage::Start, Line::Head(version)) => Ok(self.at(Stage::Between(*version))),
+            (Stage::InRow(version), Line::Edges(_)) => Ok(self.at(after_edges(version))),
+            (Stage::Listed, Line::Base(_)) => Ok(self.at(Stage::Based(Version::Two))),
+            (Stage::Based(version), Line::Weight(weight)) if may_weigh(version, *weight) => {
+                Ok(self.at(Stage::Cuts(version)))
+            }
+            (Stage::Cuts(_), Line::Cut(_)) => Ok(self),
+            (Stage::Cuts(version) | Stage::Between(version), said) => {
+                self.take_after_rows(number, version, said)
+            }
             _ => Err(ReportFault::BadLine(number)),
         }
     }
 
     /// Takes the line of this number behind whole rows.
-    fn take_after_rows(self, number: u64, said: &Line) -> Result<Walk, ReportFault>
+    fn take_after_rows(
+        self,
+        number: u64,
+        version: Version,
+        said: &Line,
+    ) -> Result<Walk, ReportFault>
         requires { self.odd ≤ self.begun }
-        ensures value { result ≡ walk_on_from_rows number self.begun self.odd said.now }
+        ensures value { result ≡ walk_on_from_rows number self.begun self.odd version said.now }
         ensures fewer { IfOk result (λ w. w.odd ≤ w.begun) }
     {
         match said {
             Line::Shot(shot) if self.is_next(*shot) => Ok(Walk {
                 begun: self.begun + 1,
                 odd: self.odd,
-                stage: Stage::InRow,
+                stage: Stage::InRow(version),
             }),
             Line::Odd(shot, _) if self.is_next(*shot) => Ok(Walk {
                 begun: self.begun + 1,
                 odd: self.odd + 1,
-                stage: Stage::Between,
+                stage: Stage::Between(version),
             }),
             Line::Shot(_) | Line::Odd(_, _) => Err(ReportFault::WrongShot(number)),
-            Line::Trace if self.begun != 0 => Ok(self.at(Stage::Between)),
+            Line::Trace if self.begun != 0 => Ok(self.at(Stage::Between(version))),
             Line::Done(totals) if self.has(*totals) => Ok(self.at(Stage::End(*totals))),
             _ => Err(ReportFault::BadLine(number)),
         }
@@ -122,5 +135,25 @@ impl Walk {
         } else {
             Err(ReportFault::BadLine(number))
         }
+    }
+}
+
+/// What follows the edges of a row in a report of this version.
+fn after_edges(version: Version) -> Stage
+    ensures { result ≡ stage_after_edges version }
+{
+    match version {
+        Version::One => Stage::Based(version),
+        Version::Two => Stage::Listed,
+    }
+}
+
+/// Whether a row of a report of this version may have the weight, which is below 2^64 without its sign.
+fn may_weigh(version: Version, weight: i128) -> bool
+    ensures { result ≡ may_weigh version weight }
+{
+    match version {
+        Version::One => weight >= 0,
+        Version::Two => weight.unsigned_abs() < 1 << 63,
     }
 }
