@@ -12,6 +12,7 @@ use Rattle.std.proofs.Math.Seq.{get_or-append_seam}
 use Rattle.fb_graph.specs.Parity.{is_in}
 use Rattle.fb_graph.specs.Problem.{Problem, crosses}
 use Rattle.fb_graph.specs.Certificate.{AreDistinct}
+use Rattle.fb_graph.specs.Covers.{HaveParity}
 use Rattle.fb_graph.specs.Laws.{Link, ends_of}
 use Rattle.fb_graph.specs.Dual.{Node, IsDual, AreApart, all_cuts, leaves, cover_of, height_of, is_outer, node_at, no_node, top_at}
 use Rattle.fb_graph.specs.declared.parts.Cut.{Cut}
@@ -24,7 +25,8 @@ use Rattle.fb_laws.specs.Forming.{Child, sets_of, names_of, blossom_of, IsCycle}
 use Rattle.fb_laws.specs.Opening.{EndAtDefects}
 use Rattle.fb_laws.specs.Works.{AreMatchedLinks, IsMatching, IsSetOf, names_without}
 use Rattle.fb_laws.specs.Trees.{Entry, Connects, grown_links, paired_links, tree_names}
-use Rattle.fb_laws.specs.SearchBlossoms.{renamed_name, inner_branches, outer_branches, joined_tree, SearchJoined}
+use Rattle.fb_laws.specs.Searches.{IsSearch}
+use Rattle.fb_laws.specs.SearchBlossoms.{IsJoining, renamed_name, inner_branches, outer_branches, joined_tree, SearchJoined}
 use Rattle.fb_graph.proofs.Crossings.{cover_found, cover_holds, name_in}
 use Rattle.fb_laws.proofs.FormedNodes.{matching_formed}
 use Rattle.fb_laws.proofs.HalvesKept.{matching_permuted}
@@ -196,194 +198,212 @@ module _ (p : Problem) (nodes : List Node) (name : ℕ) (base : Child) (others :
       (ap (is_in (map (λ m. m.name) nodes)) (sym named) ∙ name_in nodes i less))
       (subst (λ x. is_in (name ∷ []) x ≡ true) (sym is) (is_in-head name []))
 
+-- how the blossom in the tree keeps the search
+module _ (p : Problem) (nodes : List Node) (tree : List Entry) (rest : List Link) (unmatched remaining : List ℕ)
+    (root r name : ℕ) (base : Child) (others : List Child) (joining : IsJoining nodes tree root name base others)
+    (dual : IsDual p (nodes ++ blossom_of name (base ∷ others) ∷ []))
+    (named : is_in remaining name ≡ is_in unmatched base.name)
+    (kept : (n : ℕ) → is_in (names_of (base ∷ others)) n ≡ false → (n ≡ name → ⊥) → is_in remaining n ≡ is_in unmatched n)
+    (state : IsSearch p nodes tree rest unmatched root r) where
+  abbrev within : ℕ → Bool
+  within = is_in (names_of (base ∷ others))
+
+  abbrev all : List Node
+  all = nodes ++ blossom_of name (base ∷ others) ∷ []
+
+  old : IsDual p nodes
+  old = state.matching.dual
+
+  before : (d : ℕ) → is_in (leaves (nodes ++ blossom_of name (base ∷ others) ∷ [])) d ≡ true → is_in (leaves nodes) d ≡ true
+  before d leaf = ap (λ l. is_in l d) (sym (leaves_formed p nodes name base others joining.nodes_are old dual joining.fresh)) ∙ leaf
+
+  height : (v : ℕ) → height_of (all_cuts (nodes ++ blossom_of name (base ∷ others) ∷ [])) v ≡ height_of (all_cuts nodes) v
+  height v = sums_formed p nodes name base others joining.nodes_are old dual joining.fresh (λ s. is_in s v)
+
+  split : IsPermutation tree (inner_branches (is_in (names_of (base ∷ others))) tree ++ outer_branches (is_in (names_of (base ∷ others))) tree)
+  split =
+      IsPermutation-filter_both (λ (e : Entry). is_in (names_of (base ∷ others)) e.minus)
+      (λ (e : Entry). not (is_in (names_of (base ∷ others)) e.minus)) (λ e. refl) tree
+
+  paired_split : IsPermutation (paired_links tree)
+      (paired_links (inner_branches (is_in (names_of (base ∷ others))) tree) ++ paired_links (outer_branches (is_in (names_of (base ∷ others))) tree))
+  paired_split =
+      subst (IsPermutation (paired_links tree))
+      (map-append (λ (e : Entry). e.matched) (inner_branches (is_in (names_of (base ∷ others))) tree) (outer_branches (is_in (names_of (base ∷ others))) tree))
+      (IsPermutation-map (λ (e : Entry). e.matched) tree _ split)
+
+  grown_split : IsPermutation (grown_links tree)
+      (grown_links (outer_branches (is_in (names_of (base ∷ others))) tree) ++ grown_links (inner_branches (is_in (names_of (base ∷ others))) tree))
+  grown_split =
+      IsPermutation-trans _ _ _
+      (subst (IsPermutation (grown_links tree))
+      (map-append (λ (e : Entry). e.tree) (inner_branches (is_in (names_of (base ∷ others))) tree) (outer_branches (is_in (names_of (base ∷ others))) tree))
+      (IsPermutation-map (λ (e : Entry). e.tree) tree _ split))
+      (IsPermutation-append_comm (grown_links (inner_branches (is_in (names_of (base ∷ others))) tree))
+      (grown_links (outer_branches (is_in (names_of (base ∷ others))) tree)))
+
+  child_in_tree : (n : ℕ) → is_in (names_of (base ∷ others)) n ≡ true → is_in (tree_names root tree) n ≡ true
+  child_in_tree n among = named_all (λ m. is_in (tree_names root tree) m ≡ true) (base ∷ others) n joining.in_tree among
+
+  base_here : is_in (names_of (base ∷ others)) base.name ≡ true
+  base_here = is_in-head base.name (names_of others)
+
+  fresh_name : is_in (tree_names root tree) name ≡ false
+  fresh_name =
+      false_from_ne_true (is_in (tree_names root tree) name)
+      (λ among.
+      new_name p nodes name base others joining.nodes_are old dual joining.fresh name (top_at nodes name)
+      (named_set p nodes tree rest unmatched root r state name among) refl)
+
+  place_name : (d n : ℕ) → cover_of nodes d ≡ Some n → n ≡ name → ⊥
+  place_name d n cover =
+      new_name p nodes name base others joining.nodes_are old dual joining.fresh n (top_at nodes n) (cover_set nodes d n old.names cover).0
+
+  -- an unmatched node of the tree is its root
+  open_is_root : (n : ℕ) → is_in (tree_names root tree) n ≡ true → is_in unmatched n ≡ true → n ≡ root
+  open_is_root n among open_ = step (cases_eq n root)
+    where
+      step : (n ≡ root) ⊎ (n ≡ root → ⊥) → n ≡ root
+      step (inl same) = same
+      step (inr other) =
+          absurd
+          (both_ways (is_in (tree_names root tree) n)
+          (unmatched_outside p nodes tree rest unmatched root r state n
+          (is_in-filter (λ m. not (m == root)) unmatched n
+          ∙ and_from (is_in unmatched n) (not (n == root)) open_ (not_from_false (n == root) (ne_eqb n root other))))
+          among)
+
+  cycle : IsCycle nodes base others (paired_links (inner_branches (is_in (names_of (base ∷ others))) tree)) unmatched r
+  cycle = record {
+    nodes_are = joining.nodes_are;
+    apart = children_apart p nodes (base ∷ others) old joining.nodes_are joining.distinct;
+    inside =
+        inner_inside within name base.name root nodes (concat (sets_of (base ∷ others)))
+        (held_in_union p nodes name base others joining.nodes_are old dual joining.fresh) tree state.joined joining.branches;
+    even = joining.even ∙ ap (λ m. 2 * m) (sym (length-map (inner_branches (is_in (names_of (base ∷ others))) tree) (λ (e : Entry). e.matched)));
+    matched =
+        all_named (λ n. is_in unmatched n ≡ false) others
+        (λ n among.
+        false_from_ne_true (is_in unmatched n)
+        (λ open_.
+        let here : is_in (names_of (base ∷ others)) n ≡ true = is_in-tail base.name (names_of others) n among in
+        let is : n ≡ root = open_is_root n (child_in_tree n here) open_ in
+        let same : n ≡ base.name = is ∙ joining.branches.roots (ap within (sym is) ∙ here) in
+        both_ways (is_in (names_of others) base.name) joining.distinct.0 (ap (is_in (names_of others)) (sym same) ∙ among)));
+    parity = λ d n leaf cover among. state.parity d n leaf cover (child_in_tree n among);
+  }
+
+  open_ : (is_in (names_of (base ∷ others)) root ≡ true) ⊎ (is_in (names_of (base ∷ others)) root ≡ false)
+      → is_in remaining (renamed_name (is_in (names_of (base ∷ others))) name root) ≡ true
+  open_ (inl h) =
+      ap (is_in remaining) (new_in within name base.name root root h)
+      ∙ (named ∙ (ap (is_in unmatched) (sym (joining.branches.roots h)) ∙ state.open_root))
+  open_ (inr h) =
+      ap (is_in remaining) (new_out within name base.name root root h)
+      ∙ (kept root h (place_name state.root_is.0 root state.root_is.2) ∙ state.open_root)
+
+  in_tree : (n m : ℕ) → m ≡ renamed_name (is_in (names_of (base ∷ others))) name n → (n ≡ name → ⊥)
+      → is_in (tree_names (renamed_name (is_in (names_of (base ∷ others))) name root) (joined_tree (is_in (names_of (base ∷ others))) name tree)) m ≡ true
+      → (is_in (names_of (base ∷ others)) n ≡ true) ⊎ (is_in (names_of (base ∷ others)) n ≡ false) → is_in (tree_names root tree) n ≡ true
+  in_tree n m same other among (inl h) = child_in_tree n h
+  in_tree n m same other among (inr h) = step (names_kept within name base.name root tree joining.branches m among)
+    where
+      is : m ≡ n
+      is = same ∙ new_out within name base.name root n h
+
+      step : (is_in (tree_names root tree) m ≡ true) × (is_in (names_of (base ∷ others)) m ≡ false) ⊎ (m ≡ name) × (is_in (tree_names root tree) base.name ≡ true)
+          → is_in (tree_names root tree) n ≡ true
+      step (inl (there, out)) = ap (is_in (tree_names root tree)) (sym is) ∙ there
+      step (inr (new, there)) = absurd (other (sym is ∙ new))
+
+  still_open : (n m : ℕ) → m ≡ renamed_name (is_in (names_of (base ∷ others))) name n → (n ≡ name → ⊥)
+      → is_in (names_without (renamed_name (is_in (names_of (base ∷ others))) name root) remaining) m ≡ true
+      → (is_in (names_of (base ∷ others)) n ≡ true) ⊎ (is_in (names_of (base ∷ others)) n ≡ false) → is_in (names_without root unmatched) n ≡ true
+  still_open n m same other among (inl h) = absurd (step (open_is_root base.name (child_in_tree base.name base_here) base_open))
+    where
+      parts : (is_in remaining m ≡ true) × (not (m == renamed_name (is_in (names_of (base ∷ others))) name root) ≡ true)
+      parts =
+          and_parts (is_in remaining m) (not (m == renamed_name (is_in (names_of (base ∷ others))) name root))
+          (sym (is_in-filter (λ x. not (x == renamed_name (is_in (names_of (base ∷ others))) name root)) remaining m) ∙ among)
+
+      m_is : m ≡ name
+      m_is = same ∙ new_in within name base.name root n h
+
+      base_open : is_in unmatched base.name ≡ true
+      base_open = sym named ∙ (ap (is_in remaining) (sym m_is) ∙ parts.0)
+
+      step : base.name ≡ root → ⊥
+      step is =
+          both_ways (not (m == renamed_name (is_in (names_of (base ∷ others))) name root))
+          (not_from_true (m == renamed_name (is_in (names_of (base ∷ others))) name root)
+          (eq-eqb m (renamed_name (is_in (names_of (base ∷ others))) name root)
+          (m_is ∙ sym (new_in within name base.name root root (ap within (sym is) ∙ base_here)))))
+          parts.1
+  still_open n m same other among (inr h) =
+      is_in-filter (λ x. not (x == root)) unmatched n
+      ∙ and_from (is_in unmatched n) (not (n == root)) (sym (kept n h other) ∙ (ap (is_in remaining) (sym m_is) ∙ parts.0))
+      (not_from_false (n == root) (ne_eqb n root not_root))
+    where
+      parts : (is_in remaining m ≡ true) × (not (m == renamed_name (is_in (names_of (base ∷ others))) name root) ≡ true)
+      parts =
+          and_parts (is_in remaining m) (not (m == renamed_name (is_in (names_of (base ∷ others))) name root))
+          (sym (is_in-filter (λ x. not (x == renamed_name (is_in (names_of (base ∷ others))) name root)) remaining m) ∙ among)
+
+      m_is : m ≡ n
+      m_is = same ∙ new_out within name base.name root n h
+
+      not_root : n ≡ root → ⊥
+      not_root is =
+          both_ways (not (m == renamed_name (is_in (names_of (base ∷ others))) name root))
+          (not_from_true (m == renamed_name (is_in (names_of (base ∷ others))) name root)
+          (eq-eqb m (renamed_name (is_in (names_of (base ∷ others))) name root)
+          (m_is ∙ (is ∙ sym (new_out within name base.name root root (ap within (sym is) ∙ h))))))
+          parts.1
+
+  blossom_search : IsSearch p (nodes ++ blossom_of name (base ∷ others) ∷ [])
+      (joined_tree (is_in (names_of (base ∷ others))) name tree) rest remaining
+      (renamed_name (is_in (names_of (base ∷ others))) name root) r
+  blossom_search = record {
+    matching =
+        subst (λ l. IsMatching p all (l ++ rest) remaining) (sym (paired_joined within name (outer_branches within tree)))
+        (matching_formed p nodes name base others (paired_links (inner_branches within tree)) (paired_links (outer_branches within tree) ++ rest)
+        unmatched remaining r cycle dual (ap as_count named) kept
+        (matching_permuted p nodes (paired_links tree ++ rest)
+        (paired_links (inner_branches within tree) ++ (paired_links (outer_branches within tree) ++ rest)) unmatched
+        (subst (IsPermutation (paired_links tree ++ rest))
+        (append_assoc (paired_links (inner_branches within tree)) (paired_links (outer_branches within tree)) rest)
+        (IsPermutation-append_left rest (paired_links tree) (paired_links (inner_branches within tree) ++ paired_links (outer_branches within tree))
+        paired_split))
+        state.matching));
+    root_is = (
+      state.root_is.0,
+      ap (λ l. is_in l state.root_is.0) (leaves_formed p nodes name base others joining.nodes_are old dual joining.fresh) ∙ state.root_is.1,
+      cover_formed p nodes name base others joining.nodes_are old dual joining.fresh state.root_is.0 root state.root_is.2,
+    );
+    open_root = open_ (cases_Bool (within root));
+    names = distinct_kept within name base.name root tree joining.branches state.names fresh_name;
+    joined =
+        tree_kept within name base.name root nodes all (connects_formed p nodes name base others joining.nodes_are old dual joining.fresh) tree
+        state.joined joining.branches;
+    grown =
+        subst (AreMatchedLinks p all) (sym (grown_joined within name (outer_branches within tree)))
+        (links_formed p nodes name base others joining.nodes_are old dual joining.fresh (grown_links (outer_branches within tree))
+        (links_part p nodes (grown_links tree) (grown_links (outer_branches within tree)) (grown_links (inner_branches within tree)) grown_split state.grown));
+    parity = λ d m leaf cover among.
+        let there : is_in (leaves nodes) d ≡ true = before d leaf in
+        let (n, covered, same) = covered_before p nodes name base others joining.nodes_are old dual joining.fresh d m there cover in
+        ap (λ h. h % 2) (height d) ∙ state.parity d n there covered (in_tree n m same (place_name d n covered) among (cases_Bool (within n)));
+  }
+
+  -- the potentials of the other unmatched nodes stay
+  pub even_joined : HaveParity (is_in (names_without root unmatched)) nodes 0
+      → HaveParity (is_in (names_without (renamed_name (is_in (names_of (base ∷ others))) name root) remaining))
+      (nodes ++ blossom_of name (base ∷ others) ∷ []) 0
+  even_joined even d m leaf cover among =
+      let there : is_in (leaves nodes) d ≡ true = before d leaf in
+      let (n, covered, same) = covered_before p nodes name base others joining.nodes_are old dual joining.fresh d m there cover in
+      ap (λ h. h % 2) (height d) ∙ even d n there covered (still_open n m same (place_name d n covered) among (cases_Bool (within n)))
+
 pub search_joined : SearchJoined
-search_joined p nodes tree rest unmatched remaining root r name base others joining dual named kept state = record {
-  matching =
-      subst (λ l. IsMatching p all (l ++ rest) remaining) (sym (paired_joined joined name (outer_branches joined tree)))
-      (matching_formed p nodes name base others (paired_links (inner_branches joined tree)) (paired_links (outer_branches joined tree) ++ rest)
-      unmatched remaining r cycle dual (ap as_count named) kept
-      (matching_permuted p nodes (paired_links tree ++ rest)
-      (paired_links (inner_branches joined tree) ++ (paired_links (outer_branches joined tree) ++ rest)) unmatched
-      (subst (IsPermutation (paired_links tree ++ rest))
-      (append_assoc (paired_links (inner_branches joined tree)) (paired_links (outer_branches joined tree)) rest)
-      (IsPermutation-append_left rest (paired_links tree) (paired_links (inner_branches joined tree) ++ paired_links (outer_branches joined tree))
-      paired_split))
-      state.matching));
-  root_is = (
-    state.root_is.0,
-    ap (λ l. is_in l state.root_is.0) (leaves_formed p nodes name base others joining.nodes_are old dual joining.fresh) ∙ state.root_is.1,
-    cover_formed p nodes name base others joining.nodes_are old dual joining.fresh state.root_is.0 root state.root_is.2,
-  );
-  open_root = open_ (cases_Bool (joined root));
-  names = distinct_kept joined name base.name root tree joining.branches state.names fresh_name;
-  joined =
-      tree_kept joined name base.name root nodes all (connects_formed p nodes name base others joining.nodes_are old dual joining.fresh) tree
-      state.joined joining.branches;
-  grown =
-      subst (AreMatchedLinks p all) (sym (grown_joined joined name (outer_branches joined tree)))
-      (links_formed p nodes name base others joining.nodes_are old dual joining.fresh (grown_links (outer_branches joined tree))
-      (links_part p nodes (grown_links tree) (grown_links (outer_branches joined tree)) (grown_links (inner_branches joined tree)) grown_split state.grown));
-  parity = λ d m leaf cover among.
-      let there : is_in (leaves nodes) d ≡ true = before d leaf in
-      let (n, covered, same) = covered_before p nodes name base others joining.nodes_are old dual joining.fresh d m there cover in
-      ap (λ h. h % 2) (height d) ∙ state.parity d n there covered (in_tree n m same (place_name d n covered) among (cases_Bool (joined n)));
-  even = λ d m leaf cover among.
-      let there : is_in (leaves nodes) d ≡ true = before d leaf in
-      let (n, covered, same) = covered_before p nodes name base others joining.nodes_are old dual joining.fresh d m there cover in
-      ap (λ h. h % 2) (height d) ∙ state.even d n there covered (still_open n m same (place_name d n covered) among (cases_Bool (joined n)));
-}
-  where
-    joined : ℕ → Bool
-    joined = is_in (names_of (base ∷ others))
-
-    all : List Node
-    all = nodes ++ blossom_of name (base ∷ others) ∷ []
-
-    old : IsDual p nodes
-    old = state.matching.dual
-
-    before : (d : ℕ) → is_in (leaves (nodes ++ blossom_of name (base ∷ others) ∷ [])) d ≡ true → is_in (leaves nodes) d ≡ true
-    before d leaf = ap (λ l. is_in l d) (sym (leaves_formed p nodes name base others joining.nodes_are old dual joining.fresh)) ∙ leaf
-
-    height : (v : ℕ) → height_of (all_cuts (nodes ++ blossom_of name (base ∷ others) ∷ [])) v ≡ height_of (all_cuts nodes) v
-    height v = sums_formed p nodes name base others joining.nodes_are old dual joining.fresh (λ s. is_in s v)
-
-    split : IsPermutation tree (inner_branches (is_in (names_of (base ∷ others))) tree ++ outer_branches (is_in (names_of (base ∷ others))) tree)
-    split =
-        IsPermutation-filter_both (λ (e : Entry). is_in (names_of (base ∷ others)) e.minus)
-        (λ (e : Entry). not (is_in (names_of (base ∷ others)) e.minus)) (λ e. refl) tree
-
-    paired_split : IsPermutation (paired_links tree)
-        (paired_links (inner_branches (is_in (names_of (base ∷ others))) tree) ++ paired_links (outer_branches (is_in (names_of (base ∷ others))) tree))
-    paired_split =
-        subst (IsPermutation (paired_links tree))
-        (map-append (λ (e : Entry). e.matched) (inner_branches (is_in (names_of (base ∷ others))) tree) (outer_branches (is_in (names_of (base ∷ others))) tree))
-        (IsPermutation-map (λ (e : Entry). e.matched) tree _ split)
-
-    grown_split : IsPermutation (grown_links tree)
-        (grown_links (outer_branches (is_in (names_of (base ∷ others))) tree) ++ grown_links (inner_branches (is_in (names_of (base ∷ others))) tree))
-    grown_split =
-        IsPermutation-trans _ _ _
-        (subst (IsPermutation (grown_links tree))
-        (map-append (λ (e : Entry). e.tree) (inner_branches (is_in (names_of (base ∷ others))) tree) (outer_branches (is_in (names_of (base ∷ others))) tree))
-        (IsPermutation-map (λ (e : Entry). e.tree) tree _ split))
-        (IsPermutation-append_comm (grown_links (inner_branches (is_in (names_of (base ∷ others))) tree))
-        (grown_links (outer_branches (is_in (names_of (base ∷ others))) tree)))
-
-    child_in_tree : (n : ℕ) → is_in (names_of (base ∷ others)) n ≡ true → is_in (tree_names root tree) n ≡ true
-    child_in_tree n among = named_all (λ m. is_in (tree_names root tree) m ≡ true) (base ∷ others) n joining.in_tree among
-
-    base_here : is_in (names_of (base ∷ others)) base.name ≡ true
-    base_here = is_in-head base.name (names_of others)
-
-    fresh_name : is_in (tree_names root tree) name ≡ false
-    fresh_name =
-        false_from_ne_true (is_in (tree_names root tree) name)
-        (λ among.
-        new_name p nodes name base others joining.nodes_are old dual joining.fresh name (top_at nodes name)
-        (named_set p nodes tree rest unmatched root r state name among) refl)
-
-    place_name : (d n : ℕ) → cover_of nodes d ≡ Some n → n ≡ name → ⊥
-    place_name d n cover =
-        new_name p nodes name base others joining.nodes_are old dual joining.fresh n (top_at nodes n) (cover_set nodes d n old.names cover).0
-
-    -- an unmatched node of the tree is its root
-    open_is_root : (n : ℕ) → is_in (tree_names root tree) n ≡ true → is_in unmatched n ≡ true → n ≡ root
-    open_is_root n among open_ = step (cases_eq n root)
-      where
-        step : (n ≡ root) ⊎ (n ≡ root → ⊥) → n ≡ root
-        step (inl same) = same
-        step (inr other) =
-            absurd
-            (both_ways (is_in (tree_names root tree) n)
-            (unmatched_outside p nodes tree rest unmatched root r state n
-            (is_in-filter (λ m. not (m == root)) unmatched n
-            ∙ and_from (is_in unmatched n) (not (n == root)) open_ (not_from_false (n == root) (ne_eqb n root other))))
-            among)
-
-    cycle : IsCycle nodes base others (paired_links (inner_branches (is_in (names_of (base ∷ others))) tree)) unmatched r
-    cycle = record {
-      nodes_are = joining.nodes_are;
-      apart = children_apart p nodes (base ∷ others) old joining.nodes_are joining.distinct;
-      inside =
-          inner_inside joined name base.name root nodes (concat (sets_of (base ∷ others)))
-          (held_in_union p nodes name base others joining.nodes_are old dual joining.fresh) tree state.joined joining.branches;
-      even = joining.even ∙ ap (λ m. 2 * m) (sym (length-map (inner_branches (is_in (names_of (base ∷ others))) tree) (λ (e : Entry). e.matched)));
-      matched =
-          all_named (λ n. is_in unmatched n ≡ false) others
-          (λ n among.
-          false_from_ne_true (is_in unmatched n)
-          (λ open_.
-          let here : is_in (names_of (base ∷ others)) n ≡ true = is_in-tail base.name (names_of others) n among in
-          let is : n ≡ root = open_is_root n (child_in_tree n here) open_ in
-          let same : n ≡ base.name = is ∙ joining.branches.roots (ap joined (sym is) ∙ here) in
-          both_ways (is_in (names_of others) base.name) joining.distinct.0 (ap (is_in (names_of others)) (sym same) ∙ among)));
-      parity = λ d n leaf cover among. state.parity d n leaf cover (child_in_tree n among);
-    }
-
-    open_ : (is_in (names_of (base ∷ others)) root ≡ true) ⊎ (is_in (names_of (base ∷ others)) root ≡ false)
-        → is_in remaining (renamed_name (is_in (names_of (base ∷ others))) name root) ≡ true
-    open_ (inl h) =
-        ap (is_in remaining) (new_in joined name base.name root root h)
-        ∙ (named ∙ (ap (is_in unmatched) (sym (joining.branches.roots h)) ∙ state.open_root))
-    open_ (inr h) =
-        ap (is_in remaining) (new_out joined name base.name root root h)
-        ∙ (kept root h (place_name state.root_is.0 root state.root_is.2) ∙ state.open_root)
-
-    in_tree : (n m : ℕ) → m ≡ renamed_name (is_in (names_of (base ∷ others))) name n → (n ≡ name → ⊥)
-        → is_in (tree_names (renamed_name (is_in (names_of (base ∷ others))) name root) (joined_tree (is_in (names_of (base ∷ others))) name tree)) m ≡ true
-        → (is_in (names_of (base ∷ others)) n ≡ true) ⊎ (is_in (names_of (base ∷ others)) n ≡ false) → is_in (tree_names root tree) n ≡ true
-    in_tree n m same other among (inl h) = child_in_tree n h
-    in_tree n m same other among (inr h) = step (names_kept joined name base.name root tree joining.branches m among)
-      where
-        is : m ≡ n
-        is = same ∙ new_out joined name base.name root n h
-
-        step : (is_in (tree_names root tree) m ≡ true) × (is_in (names_of (base ∷ others)) m ≡ false) ⊎ (m ≡ name) × (is_in (tree_names root tree) base.name ≡ true)
-            → is_in (tree_names root tree) n ≡ true
-        step (inl (there, out)) = ap (is_in (tree_names root tree)) (sym is) ∙ there
-        step (inr (new, there)) = absurd (other (sym is ∙ new))
-
-    still_open : (n m : ℕ) → m ≡ renamed_name (is_in (names_of (base ∷ others))) name n → (n ≡ name → ⊥)
-        → is_in (names_without (renamed_name (is_in (names_of (base ∷ others))) name root) remaining) m ≡ true
-        → (is_in (names_of (base ∷ others)) n ≡ true) ⊎ (is_in (names_of (base ∷ others)) n ≡ false) → is_in (names_without root unmatched) n ≡ true
-    still_open n m same other among (inl h) = absurd (step (open_is_root base.name (child_in_tree base.name base_here) base_open))
-      where
-        parts : (is_in remaining m ≡ true) × (not (m == renamed_name (is_in (names_of (base ∷ others))) name root) ≡ true)
-        parts =
-            and_parts (is_in remaining m) (not (m == renamed_name (is_in (names_of (base ∷ others))) name root))
-            (sym (is_in-filter (λ x. not (x == renamed_name (is_in (names_of (base ∷ others))) name root)) remaining m) ∙ among)
-
-        m_is : m ≡ name
-        m_is = same ∙ new_in joined name base.name root n h
-
-        base_open : is_in unmatched base.name ≡ true
-        base_open = sym named ∙ (ap (is_in remaining) (sym m_is) ∙ parts.0)
-
-        step : base.name ≡ root → ⊥
-        step is =
-            both_ways (not (m == renamed_name (is_in (names_of (base ∷ others))) name root))
-            (not_from_true (m == renamed_name (is_in (names_of (base ∷ others))) name root)
-            (eq-eqb m (renamed_name (is_in (names_of (base ∷ others))) name root)
-            (m_is ∙ sym (new_in joined name base.name root root (ap joined (sym is) ∙ base_here)))))
-            parts.1
-    still_open n m same other among (inr h) =
-        is_in-filter (λ x. not (x == root)) unmatched n
-        ∙ and_from (is_in unmatched n) (not (n == root)) (sym (kept n h other) ∙ (ap (is_in remaining) (sym m_is) ∙ parts.0))
-        (not_from_false (n == root) (ne_eqb n root not_root))
-      where
-        parts : (is_in remaining m ≡ true) × (not (m == renamed_name (is_in (names_of (base ∷ others))) name root) ≡ true)
-        parts =
-            and_parts (is_in remaining m) (not (m == renamed_name (is_in (names_of (base ∷ others))) name root))
-            (sym (is_in-filter (λ x. not (x == renamed_name (is_in (names_of (base ∷ others))) name root)) remaining m) ∙ among)
-
-        m_is : m ≡ n
-        m_is = same ∙ new_out joined name base.name root n h
-
-        not_root : n ≡ root → ⊥
-        not_root is =
-            both_ways (not (m == renamed_name (is_in (names_of (base ∷ others))) name root))
-            (not_from_true (m == renamed_name (is_in (names_of (base ∷ others))) name root)
-            (eq-eqb m (renamed_name (is_in (names_of (base ∷ others))) name root)
-            (m_is ∙ (is ∙ sym (new_out joined name base.name root root (ap joined (sym is) ∙ h))))))
-            parts.1
+search_joined p nodes tree rest unmatched remaining root r name base others joining dual named kept state =
+    blossom_search p nodes tree rest unmatched remaining root r name base others joining dual named kept state

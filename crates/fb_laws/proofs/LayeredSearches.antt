@@ -54,7 +54,7 @@ module _ (p : Problem) (nodes others : List Node) (alike : AreAlike nodes others
   cover_before : (d name : ℕ) → is_in (leaves others) d ≡ true → cover_of others d ≡ Some name → cover_of nodes d ≡ Some name
   cover_before d name leaf cover = sym (alike.covers d (before d leaf)) ∙ cover
 
-  parity_alike : (test : ℕ → Bool) (r : ℕ) → HaveParity test nodes r → HaveParity test others r
+  pub parity_alike : (test : ℕ → Bool) (r : ℕ) → HaveParity test nodes r → HaveParity test others r
   parity_alike test r parity d name leaf cover passing =
       ap (λ h. h % 2) (alike.heights d) ∙ parity d name (before d leaf) (cover_before d name leaf cover) passing
 
@@ -153,7 +153,6 @@ search_alike p nodes others tree rest unmatched root r alike dual state = record
       state.joined;
   grown = links_alike p nodes others alike state.matching.dual dual (grown_links tree) state.grown;
   parity = parity_alike p nodes others alike state.matching.dual dual (is_in (tree_names root tree)) r state.parity;
-  even = parity_alike p nodes others alike state.matching.dual dual (is_in (names_without root unmatched)) 0 state.even;
 }
 
 found_here : (outer other : ℕ → Bool) → ((n : ℕ) → outer n ≡ other n) → (name v : ℕ) → outer name ≡ true → (ns : List Node) → is_live ns name ≡ true

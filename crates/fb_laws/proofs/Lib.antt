@@ -5,6 +5,9 @@ pub mod CycleWays
 pub mod DifferingCuts
 pub mod ExchangedDefects
 pub mod FallingRanks
+pub mod ForestEnds
+pub mod ForestStates
+pub mod ForestSteps
 pub mod FormedNodes
 pub mod FreedNames
 pub mod FusedParts
@@ -47,7 +50,6 @@ pub mod SeamStates
 pub mod SearchEnds
 pub mod SearchStates
 pub mod SearchTrees
-pub mod Shifts
 pub mod SingleDefects
 pub mod SolvedNests
 pub mod SolvedParts

@@ -13,6 +13,7 @@ use Rattle.fb_laws.specs.Forming.{names_of, blossom_of}
 use Rattle.fb_laws.specs.Trees.{Entry, plus_names, roles_of}
 use Rattle.fb_laws.specs.Searches.{IsSearch}
 use Rattle.fb_graph.specs.Alike.{AreAlike}
+use Rattle.fb_graph.specs.Covers.{HaveParity}
 use Rattle.fb_laws.specs.SearchBlossoms.{joined_tree, renamed_name}
 use Rattle.fb_graph.specs.Nests.{IsNest}
 use Rattle.fb_graph.specs.Moves.{joined_nodes, split_nodes, absorbed_nodes, uncovered_nodes}
@@ -24,18 +25,18 @@ use Rattle.fb_graph.proofs.BeginningNests.{nest_begins}
 use Rattle.fb_graph.proofs.Crossings.{free_step}
 use Rattle.fb_laws.proofs.HalvesKept.{work_begins, odd_of_part}
 use Rattle.fb_graph.proofs.JoinedNests.{nest_joined}
-use Rattle.fb_laws.proofs.JoinedSearches.{search_joined}
+use Rattle.fb_laws.proofs.JoinedSearches.{even_joined, search_joined}
 use Rattle.fb_laws.proofs.JoinedThree.{root_plus}
-use Rattle.fb_laws.proofs.LayeredSearches.{search_alike}
+use Rattle.fb_laws.proofs.LayeredSearches.{parity_alike, search_alike}
 use Rattle.fb_graph.proofs.TallerNodes.{taller_alike}
 use Rattle.fb_graph.proofs.LoweredNests.{nest_uncovered}
 use Rattle.fb_laws.proofs.MergedParts.{odd_in}
 use Rattle.fb_laws.proofs.MoveBridges.{blossom_named, joining_allowed, no_leaf, uncovered_back}
 use Rattle.fb_graph.proofs.NestParts.{top_is_odd}
-use Rattle.fb_laws.proofs.OpenedTrees.{search_opened}
+use Rattle.fb_laws.proofs.OpenedTrees.{even_opened, search_opened}
 use Rattle.fb_graph.proofs.RaisedNests.{nest_absorbed}
 use Rattle.fb_laws.proofs.SearchEnds.{search_ended, search_met, search_released}
-use Rattle.fb_laws.proofs.SearchStates.{search_attached, search_begins, search_roles, search_stepped}
+use Rattle.fb_laws.proofs.SearchStates.{even_begins, even_stepped, search_attached, search_begins, search_roles, search_stepped}
 use Rattle.fb_laws.proofs.SearchTrees.{cover_place, plus_in_tree}
 use Rattle.fb_graph.proofs.SourceWalks.{walks_begin, walks_joined, walks_split, walks_absorbed, walks_uncovered, walks_stepped}
 use Rattle.fb_graph.proofs.SplitNests.{nest_split}
@@ -55,6 +56,7 @@ pub nested_search_begins : NestedSearchBegins
 nested_search_begins p nodes links unmatched root state outer open_root = record {
   nest = state.nest;
   search = search_begins p nodes links unmatched root state.work outer open_root;
+  even = even_begins nodes unmatched root state.work.even;
   walks = state.walks;
   outer = state.outer;
 }
@@ -94,6 +96,7 @@ nested_stepped p nodes tree rest unmatched root r k limits even may state =
     record {
       nest = nest;
       search = search_stepped p nodes tree rest unmatched root r k may.tops nest.dual state.search;
+      even = even_stepped p nodes tree rest unmatched root r k may.tops state.search state.even;
       walks = walks_stepped p (roles_of root tree) nodes k are may.tops state.nest state.walks;
       outer = outer_stepped (roles_of root tree) nodes k unmatched state.outer;
     }
@@ -101,11 +104,13 @@ nested_stepped p nodes tree rest unmatched root r k limits even may state =
 pub nested_absorbed : NestedAbsorbed
 nested_absorbed p nodes tree rest unmatched root r name k u v even may state =
     let nest = nest_absorbed p nodes name k u v even may state.nest in
+    let alike = (taller_alike nodes name v (no_leaf p nodes v state.nest.dual may.uncovered)).0 in
     record {
       nest = nest;
-      search =
-          search_alike p nodes (absorbed_nodes name v nodes) tree rest unmatched root r
-          (taller_alike nodes name v (no_leaf p nodes v state.nest.dual may.uncovered)).0 nest.dual state.search;
+      search = search_alike p nodes (absorbed_nodes name v nodes) tree rest unmatched root r alike nest.dual state.search;
+      even =
+          parity_alike p nodes (absorbed_nodes name v nodes) alike state.nest.dual nest.dual
+          (is_in (names_without root unmatched)) 0 state.even;
       walks = walks_absorbed p nodes name k u v may state.nest state.walks;
       outer = outer_absorbed nodes name v unmatched state.outer;
     }
@@ -114,13 +119,15 @@ pub nested_uncovered : NestedUncovered
 nested_uncovered p nodes tree rest unmatched root r name may state =
     let nest = nest_uncovered p nodes name may state.nest in
     let (v, given) = uncovered_back p nodes name may state.nest in
+    let alike =
+    subst (λ ns. AreAlike ns (uncovered_nodes name nodes)) given.back
+    (taller_alike (uncovered_nodes name nodes) name v given.no_defect).1 in
     record {
       nest = nest;
-      search =
-          search_alike p nodes (uncovered_nodes name nodes) tree rest unmatched root r
-          (subst (λ ns. AreAlike ns (uncovered_nodes name nodes)) given.back
-          (taller_alike (uncovered_nodes name nodes) name v given.no_defect).1)
-          nest.dual state.search;
+      search = search_alike p nodes (uncovered_nodes name nodes) tree rest unmatched root r alike nest.dual state.search;
+      even =
+          parity_alike p nodes (uncovered_nodes name nodes) alike state.nest.dual nest.dual
+          (is_in (names_without root unmatched)) 0 state.even;
       walks = walks_uncovered p nodes name may state.nest state.walks;
       outer = outer_uncovered nodes name unmatched state.outer;
     }
@@ -129,6 +136,7 @@ pub nested_attached : NestedAttached
 nested_attached p nodes tree e rest unmatched root r even state plus met matched new = record {
   nest = state.nest;
   search = search_attached p nodes tree e rest unmatched root r even state.search plus met matched new;
+  even = state.even;
   walks = state.walks;
   outer = state.outer;
 }
@@ -149,6 +157,12 @@ nested_joined p nodes tree rest unmatched remaining root r name base others join
           (search_joined p nodes tree rest unmatched remaining root r name base others joining
           (subst (IsDual p) (sym named) nest.dual) same
           outside state.search);
+      even =
+          subst
+          (λ ns. HaveParity (is_in (names_without (renamed_name (is_in (names_of (base ∷ others))) name root) remaining)) ns 0)
+          named
+          (even_joined p nodes tree rest unmatched remaining root r name base others joining
+          (subst (IsDual p) (sym named) nest.dual) same outside state.search state.even);
       walks = walks_joined p nodes name (names_of (base ∷ others)) may state.nest state.walks;
       outer =
           outer_joined nodes name (names_of (base ∷ others)) unmatched remaining
@@ -163,6 +177,9 @@ nested_opened p nodes newer older tree e kept paired more rest later unmatched r
       search =
           search_opened p nodes (split_nodes e.minus nodes) newer older tree e kept paired more rest later unmatched root r
           opened nest.dual state.search;
+      even =
+          even_opened p nodes (split_nodes e.minus nodes) newer older tree e kept paired more rest later unmatched root
+          opened state.nest.dual nest.dual state.even;
       walks = walks_split p nodes e.minus may state.nest state.walks;
       outer = outer_split nodes e.minus unmatched state.outer;
     }
@@ -178,7 +195,7 @@ outer_without nodes root names =
 pub nested_ended : NestedEnded
 nested_ended p nodes tree rest unmatched root r name out v state plus new leaves_node boundary = record {
   nest = state.nest;
-  work = search_ended p nodes tree rest unmatched root r name out v state.search plus new leaves_node boundary;
+  work = search_ended p nodes tree rest unmatched root r name out v state.search state.even plus new leaves_node boundary;
   walks = state.walks;
   outer = outer_without nodes root unmatched state.outer;
 }
@@ -188,7 +205,7 @@ nested_met p nodes tree rest unmatched root r name other out state plus open_oth
     record {
       nest = state.nest;
       work =
-          search_met p nodes tree rest unmatched root r name other out state.search plus open_other differs new
+          search_met p nodes tree rest unmatched root r name other out state.search state.even plus open_other differs new
           connects;
       walks = state.walks;
       outer = outer_without nodes root (names_without other unmatched) (outer_without nodes other unmatched state.outer);
@@ -199,7 +216,7 @@ nested_released p nodes tree old rest unmatched root r name other out b state pl
     record {
       nest = state.nest;
       work =
-          search_released p nodes tree old rest unmatched root r name other out b state.search plus new connects away
+          search_released p nodes tree old rest unmatched root r name other out b state.search state.even plus new connects away
           boundary;
       walks = state.walks;
       outer = outer_without nodes root unmatched state.outer;

@@ -1,12 +1,15 @@
 -- A tree with an opened blossom.
-use Rattle.std.proofs.Common.{ℕ, ◌≡◌, ◌%◌, ◌==◌, ◌⊎◌, inl, inr, not, true, false, ◌∷◌, ◌++◌, Some, sym, ap, ◌∙◌}
+use Rattle.std.proofs.Common.{ℕ, ◌≡◌, ◌%◌, ◌==◌, ◌⊎◌, inl, inr, not, true, false, List, ◌∷◌, ◌++◌, Some, sym, ap, ◌∙◌}
 use Rattle.std.proofs.lemmas.Bool.{both_ways, and_parts}
 use Rattle.fb_graph.specs.Parity.{is_in}
-use Rattle.fb_graph.specs.Dual.{IsDual, all_cuts, leaves, cover_of, height_of}
+use Rattle.fb_graph.specs.Laws.{Link}
+use Rattle.fb_graph.specs.Problem.{Problem}
+use Rattle.fb_graph.specs.Covers.{HaveParity}
+use Rattle.fb_graph.specs.Dual.{IsDual, Node, all_cuts, leaves, cover_of, height_of}
 use Rattle.fb_graph.proofs.Sets.{is_in-head, is_in-tail, is_in-filter}
 use Rattle.fb_laws.specs.Works.{names_without}
-use Rattle.fb_laws.specs.Trees.{plus_names, minus_names, tree_names, paired_links}
-use Rattle.fb_laws.specs.SearchOpenings.{SearchOpened}
+use Rattle.fb_laws.specs.Trees.{Entry, plus_names, minus_names, tree_names, paired_links}
+use Rattle.fb_laws.specs.SearchOpenings.{IsOpenedTree, SearchOpened}
 use Rattle.fb_laws.proofs.HalvesKept.{matching_permuted}
 use Rattle.fb_laws.proofs.JoinedThree.{mid_names, root_plus}
 use Rattle.fb_laws.proofs.OpenedSearches.{matching_opened, leaf_before, cover_split}
@@ -33,10 +36,6 @@ search_opened p nodes others newer older tree e kept paired more rest later unma
       let at : is_in (leaves nodes) d ≡ true = leaf_before p nodes others e.minus (kept ∷ paired) opened.split old dual d leaf in
       ap (λ h. h % 2) (opened.split.heights d)
       ∙ in_tree d n at among (cover_split p nodes others e.minus (kept ∷ paired) opened.split old dual d n at cover);
-  even = λ d n leaf cover among.
-      let at : is_in (leaves nodes) d ≡ true = leaf_before p nodes others e.minus (kept ∷ paired) opened.split old dual d leaf in
-      ap (λ h. h % 2) (opened.split.heights d)
-      ∙ still_open d n at among (cover_split p nodes others e.minus (kept ∷ paired) opened.split old dual d n at cover);
 }
   where
     old : IsDual p nodes
@@ -56,11 +55,22 @@ search_opened p nodes others newer older tree e kept paired more rest later unma
     in_tree d n at among (inr (here, child)) =
         state.parity d e.minus at here (minus_in_tree root (newer ++ e ∷ older) e.minus (mid_names root newer older e).0)
 
-    still_open : (d n : ℕ) → is_in (leaves nodes) d ≡ true → is_in (names_without root unmatched) n ≡ true
+-- what is unmatched beside the root stays as it was
+pub even_opened : (p : Problem) (nodes others : List Node) (newer older tree : List Entry) (e : Entry) (kept : ℕ)
+    (paired : List ℕ) (more rest later : List Link) (unmatched : List ℕ) (root : ℕ)
+    → IsOpenedTree p nodes others newer older tree e kept paired more rest later unmatched root → IsDual p nodes → IsDual p others
+    → HaveParity (is_in (names_without root unmatched)) nodes 0
+    → HaveParity (is_in (names_without root unmatched)) others 0
+even_opened p nodes others newer older tree e kept paired more rest later unmatched root opened old dual even d n leaf cover among =
+    let at : is_in (leaves nodes) d ≡ true = leaf_before p nodes others e.minus (kept ∷ paired) opened.split old dual d leaf in
+    ap (λ h. h % 2) (opened.split.heights d)
+    ∙ still_open at (cover_split p nodes others e.minus (kept ∷ paired) opened.split old dual d n at cover)
+  where
+    still_open : is_in (leaves nodes) d ≡ true
         → (cover_of nodes d ≡ Some n) × (n ≡ e.minus → ⊥) × (is_in (kept ∷ paired) n ≡ false) ⊎ (cover_of nodes d ≡ Some e.minus) × (is_in (kept ∷ paired) n ≡ true)
         → height_of (all_cuts nodes) d % 2 ≡ 0
-    still_open d n at among (inl (here, other, out)) = state.even d n at here among
-    still_open d n at among (inr (here, child)) =
+    still_open at (inl (here, other, out)) = even d n at here among
+    still_open at (inr (here, child)) =
         absurd
         (both_ways (is_in unmatched n) (opened.closed n (is_in-tail e.minus (kept ∷ paired) n child))
         (and_parts (is_in unmatched n) (not (n == root)) (sym (is_in-filter (λ m. not (m == root)) unmatched n) ∙ among)).0)

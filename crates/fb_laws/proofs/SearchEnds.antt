@@ -31,7 +31,7 @@ links_part p nodes links first other moved are = record {
   at_defects = All-left (EndsAtDefects p (leaves nodes)) first other (All-permutation (EndsAtDefects p (leaves nodes)) links (first ++ other) moved are.at_defects);
 }
 
-out_of : (nodes : List Node) (l : Link) (a b : ℕ) → Connects nodes l a b → (v : ℕ) × LeavesNode nodes l a v × (cover_of nodes v ≡ Some b)
+pub out_of : (nodes : List Node) (l : Link) (a b : ℕ) → Connects nodes l a b → (v : ℕ) × LeavesNode nodes l a v × (cover_of nodes v ≡ Some b)
 out_of nodes l a b (inl (from, to)) = (l.to, inl (from, refl), to)
 out_of nodes l a b (inr (to, from)) = (l.from, inr (to, refl), from)
 
@@ -39,18 +39,18 @@ module _ (p : Problem) (nodes : List Node) (tree : List Entry) (rest : List Link
   split : IsPermutation tree (path_to tree name ++ branches_beside tree name)
   split = IsPermutation-sym _ _ (search_path p nodes tree rest unmatched root r name state among).3
 
-  grown_split : IsPermutation (grown_links tree) (grown_links (path_to tree name) ++ grown_links (branches_beside tree name))
+  pub grown_split : IsPermutation (grown_links tree) (grown_links (path_to tree name) ++ grown_links (branches_beside tree name))
   grown_split =
       subst (IsPermutation (grown_links tree)) (map-append (λ (e : Entry). e.tree) (path_to tree name) (branches_beside tree name))
       (IsPermutation-map (λ (e : Entry). e.tree) tree (path_to tree name ++ branches_beside tree name) split)
 
-  paired_split : IsPermutation (paired_links tree) (paired_links (path_to tree name) ++ paired_links (branches_beside tree name))
+  pub paired_split : IsPermutation (paired_links tree) (paired_links (path_to tree name) ++ paired_links (branches_beside tree name))
   paired_split =
       subst (IsPermutation (paired_links tree)) (map-append (λ (e : Entry). e.matched) (path_to tree name) (branches_beside tree name))
       (IsPermutation-map (λ (e : Entry). e.matched) tree (path_to tree name ++ branches_beside tree name) split)
 
   -- the matched links, those of the path first
-  matching : IsMatching p nodes (matched_links (branches_of nodes (path_to tree name)) ++ (paired_links (branches_beside tree name) ++ rest)) unmatched
+  pub matching : IsMatching p nodes (matched_links (branches_of nodes (path_to tree name)) ++ (paired_links (branches_beside tree name) ++ rest)) unmatched
   matching =
       subst (λ l. IsMatching p nodes (l ++ (paired_links (branches_beside tree name) ++ rest)) unmatched) (sym (branches_matched nodes (path_to tree name)))
       (matching_permuted p nodes (paired_links tree ++ rest) (paired_links (path_to tree name) ++ (paired_links (branches_beside tree name) ++ rest)) unmatched
@@ -58,19 +58,19 @@ module _ (p : Problem) (nodes : List Node) (tree : List Entry) (rest : List Link
       (IsPermutation-append_left rest (paired_links tree) (paired_links (path_to tree name) ++ paired_links (branches_beside tree name)) paired_split))
       state.matching)
 
-  links : (out : Link) → AreMatchedLinks p nodes (out ∷ []) → AreMatchedLinks p nodes (tree_links (branches_of nodes (path_to tree name)) ++ out ∷ [])
+  pub links : (out : Link) → AreMatchedLinks p nodes (out ∷ []) → AreMatchedLinks p nodes (tree_links (branches_of nodes (path_to tree name)) ++ out ∷ [])
   links out are =
       subst (λ l. AreMatchedLinks p nodes (l ++ out ∷ [])) (sym (branches_tree nodes (path_to tree name)))
       (links_joined p nodes (grown_links (path_to tree name)) (out ∷ [])
       (links_part p nodes (grown_links tree) (grown_links (path_to tree name)) (grown_links (branches_beside tree name)) grown_split state.grown) are)
 
-  leads : (out : Link) (v : ℕ) → LeavesNode nodes out name v → LeadsOut out (tip_of (top_at nodes root) (branches_of nodes (path_to tree name))) v
+  pub leads : (out : Link) (v : ℕ) → LeavesNode nodes out name v → LeadsOut out (tip_of (top_at nodes root) (branches_of nodes (path_to tree name))) v
   leads out v leaving =
       subst (λ s. LeadsOut out s v) (sym (search_path p nodes tree rest unmatched root r name state among).1)
       (leads_from nodes out name v state.matching.dual.names leaving)
 
 pub search_ended : SearchEnded
-search_ended p nodes tree rest unmatched root r name out v state among are leaving boundary = record {
+search_ended p nodes tree rest unmatched root r name out v state even among are leaving boundary = record {
   matching =
       subst (λ l. IsMatching p nodes (l ++ out ∷ (paired_links (branches_beside tree name) ++ rest)) (names_without root unmatched))
       (branches_tree nodes (path_to tree name))
@@ -82,11 +82,11 @@ search_ended p nodes tree rest unmatched root r name out v state among are leavi
       (search_path p nodes tree rest unmatched root r name state among).0
       (links p nodes tree rest unmatched root r name state among out are)
       (leads p nodes tree rest unmatched root r name state among out v leaving) boundary);
-  even = state.even;
+  even = even;
 }
 
 pub search_met : SearchMet
-search_met p nodes tree rest unmatched root r name other out state among that differ_ are connects =
+search_met p nodes tree rest unmatched root r name other out state even among that differ_ are connects =
     let (v, leaving, cover) = out_of nodes out name other connects in
     let (set, within) = cover_set nodes v other state.matching.dual.names cover in
     let found = search_path p nodes tree rest unmatched root r name state among in
@@ -101,7 +101,7 @@ search_met p nodes tree rest unmatched root r name other out state among that di
           found.2 found.0
           (links p nodes tree rest unmatched root r name state among out are)
           (leads p nodes tree rest unmatched root r name state among out v leaving) within);
-      even = λ d n leaf covered here. state.even d n leaf covered (fewer n here);
+      even = λ d n leaf covered here. even d n leaf covered (fewer n here);
     }
   where
     fewer : (n : ℕ) → is_in (names_without root (names_without other unmatched)) n ≡ true → is_in (names_without root unmatched) n ≡ true
@@ -114,7 +114,7 @@ search_met p nodes tree rest unmatched root r name other out state among that di
         is_in-filter (λ m. not (m == root)) unmatched n ∙ and_from (is_in unmatched n) (not (n == root)) second.0 first.1
 
 pub search_released : SearchReleased
-search_released p nodes tree old rest unmatched root r name other out b state among are connects leaving_old boundary =
+search_released p nodes tree old rest unmatched root r name other out b state even among are connects leaving_old boundary =
     let (v, leaving, cover) = out_of nodes out name other connects in
     let (set, within) = cover_set nodes v other state.matching.dual.names cover in
     let found = search_path p nodes tree (old ∷ rest) unmatched root r name state among in
@@ -136,5 +136,5 @@ search_released p nodes tree old rest unmatched root r name other out b state am
           (links p nodes tree (old ∷ rest) unmatched root r name state among out are)
           (leads p nodes tree (old ∷ rest) unmatched root r name state among out v leaving) within
           (leads_from nodes old other b state.matching.dual.names leaving_old) boundary);
-      even = state.even;
+      even = even;
     }

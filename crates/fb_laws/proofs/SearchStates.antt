@@ -11,7 +11,7 @@ use Rattle.fb_graph.proofs.ParitySums.{differ_comm}
 use Rattle.fb_graph.proofs.Sets.{is_in-cases, is_in-head, is_in-tail, is_in-filter}
 use Rattle.fb_graph.proofs.Sums.{sum_same}
 use Rattle.fb_graph.specs.Counts.{as_count}
-use Rattle.fb_graph.specs.Steps.{Roles, gains, losses, stepped_nodes}
+use Rattle.fb_graph.specs.Steps.{AllowShrinking, Roles, gains, losses, stepped_nodes}
 use Rattle.fb_graph.specs.Covers.{AreRoles, HaveParity, crossings_of, is_covered_by, passes}
 use Rattle.fb_graph.specs.Ends.{ends_in}
 use Rattle.fb_graph.specs.Links.{pair, AreEven, IsTightLink}
@@ -44,15 +44,19 @@ search_begins p nodes links unmatched root work is open_ = record {
     at_defects = All-nil (EndsAtDefects p (leaves nodes));
   };
   parity = λ d name leaf cover among. step d name leaf cover (is_in-cases root [] name among);
-  even = λ d name leaf cover among.
-      work.even d name leaf cover
-      (and_parts (is_in unmatched name) (not (name == root)) (sym (is_in-filter (λ n. not (n == root)) unmatched name) ∙ among)).0;
 }
   where
     step : (d name : ℕ) → is_in (leaves nodes) d ≡ true → cover_of nodes d ≡ Some name → (root ≡ name) ⊎ (is_in [] name ≡ true)
         → height_of (all_cuts nodes) d % 2 ≡ 0
     step d name leaf cover (inl same) = work.even d name leaf cover (ap (is_in unmatched) (sym same) ∙ open_)
     step d name leaf cover (inr none) = absurd (false≢true none)
+
+-- a potential that is even for all unmatched nodes is so for all but the root
+pub even_begins : (nodes : List Node) (unmatched : List ℕ) (root : ℕ) → HaveParity (is_in unmatched) nodes 0
+    → HaveParity (is_in (names_without root unmatched)) nodes 0
+even_begins nodes unmatched root even d name leaf cover among =
+    even d name leaf cover
+    (and_parts (is_in unmatched name) (not (name == root)) (sym (is_in-filter (λ n. not (n == root)) unmatched name) ∙ among)).0
 
 pub search_permuted : SearchPermuted
 search_permuted p nodes tree rest more unmatched root r moved state = record {
@@ -65,7 +69,6 @@ search_permuted p nodes tree rest more unmatched root r moved state = record {
   joined = state.joined;
   grown = state.grown;
   parity = state.parity;
-  even = state.even;
 }
 
 -- links of two lists
@@ -183,7 +186,7 @@ crossings_turned test nodes u v =
     ap (λ b. as_count (test (get_or nodes i d).name && b))
     (differ_comm (is_in (get_or nodes i d).top.vertices u) (is_in (get_or nodes i d).top.vertices v)))
 
-abbrev IsLevelBy : Roles → List Node → Link → Type 0
+abbrev pub IsLevelBy : Roles → List Node → Link → Type 0
 IsLevelBy roles nodes l = gains roles nodes (pair l.from l.to) ≡ losses roles nodes (pair l.from l.to)
 
 level_connected : (roles : Roles) (nodes : List Node) (l : Link) (a b : ℕ) → AreOuterApart nodes → AreRoles roles nodes
@@ -195,7 +198,7 @@ level_connected roles nodes l a b apart are plus minus (inr (to, from)) =
     ∙ (level_between roles nodes (pair l.to l.from) apart are (ap (passes roles.is_plus) to ∙ plus) (ap (passes roles.is_minus) from ∙ minus)
     ∙ crossings_turned roles.is_minus nodes l.to l.from)
 
-levels_in : (roles : Roles) (nodes : List Node) (root : ℕ) → AreOuterApart nodes → AreRoles roles nodes → (tree : List Entry)
+pub levels_in : (roles : Roles) (nodes : List Node) (root : ℕ) → AreOuterApart nodes → AreRoles roles nodes → (tree : List Entry)
     → IsTree nodes root tree → ((n : ℕ) → is_in (plus_names root tree) n ≡ true → roles.is_plus n ≡ true)
     → ((n : ℕ) → is_in (minus_names tree) n ≡ true → roles.is_minus n ≡ true)
     → All (IsLevelBy roles nodes) (grown_links tree) × All (IsLevelBy roles nodes) (paired_links tree)
@@ -296,19 +299,6 @@ search_stepped p nodes tree rest unmatched root r k low dual state = record {
     at_defects = subst (λ l. EndAtDefects p l (grown_links tree)) (sym (leaves_stepped roles nodes k)) state.grown.at_defects;
   };
   parity = tree_parity_stepped roles (is_in (tree_names root tree)) nodes k r state.matching.dual.apart are low (tree_in_roles root tree) state.parity;
-  even =
-      other_parity_stepped roles (is_in (names_without root unmatched)) nodes k 0 state.matching.dual.apart are low
-      (λ n among. (
-        false_from_ne_true (is_in (plus_names root tree) n)
-            (λ plus.
-            both_ways (is_in (tree_names root tree) n) (unmatched_outside p nodes tree rest unmatched root r state n among)
-            (plus_in_tree root tree n plus)),
-        false_from_ne_true (is_in (minus_names tree) n)
-            (λ minus.
-            both_ways (is_in (tree_names root tree) n) (unmatched_outside p nodes tree rest unmatched root r state n among)
-            (minus_in_tree root tree n minus)),
-      ))
-      state.even;
 }
   where
     roles : Roles
@@ -316,6 +306,26 @@ search_stepped p nodes tree rest unmatched root r k low dual state = record {
 
     are : AreRoles (roles_of root tree) nodes
     are = are_roles p nodes tree rest unmatched root r state
+
+-- a step of the tree leaves the potentials of the other unmatched nodes
+pub even_stepped : (p : Problem) (nodes : List Node) (tree : List Entry) (rest : List Link) (unmatched : List ℕ)
+    (root r k : ℕ) → AllowShrinking (roles_of root tree) nodes k → IsSearch p nodes tree rest unmatched root r
+    → HaveParity (is_in (names_without root unmatched)) nodes 0
+    → HaveParity (is_in (names_without root unmatched)) (stepped_nodes (roles_of root tree) k nodes) 0
+even_stepped p nodes tree rest unmatched root r k low state even =
+    other_parity_stepped (roles_of root tree) (is_in (names_without root unmatched)) nodes k 0 state.matching.dual.apart
+    (are_roles p nodes tree rest unmatched root r state) low
+    (λ n among. (
+      false_from_ne_true (is_in (plus_names root tree) n)
+          (λ plus.
+          both_ways (is_in (tree_names root tree) n) (unmatched_outside p nodes tree rest unmatched root r state n among)
+          (plus_in_tree root tree n plus)),
+      false_from_ne_true (is_in (minus_names tree) n)
+          (λ minus.
+          both_ways (is_in (tree_names root tree) n) (unmatched_outside p nodes tree rest unmatched root r state n among)
+          (minus_in_tree root tree n minus)),
+    ))
+    even
 
 -- a tight link between two nodes gives the one the parity of the other
 pub connected_parity : (p : Problem) (nodes : List Node) (r : ℕ) (l : Link) (a b : ℕ) → IsDual p nodes → HaveOneParity nodes → AreEven p
@@ -342,7 +352,6 @@ search_attached p nodes tree e rest unmatched root r even state parent grown mat
   joined = (parent, grown, matched, state.joined);
   grown = links_joined p nodes (e.tree ∷ []) (grown_links tree) links state.grown;
   parity = λ d name leaf cover among. by d name leaf cover (is_in-cases e.minus (e.plus ∷ tree_names root tree) name among);
-  even = state.even;
 }
   where
     dual : IsDual p nodes

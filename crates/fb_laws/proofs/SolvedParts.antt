@@ -1,7 +1,7 @@
 -- A part with nothing unmatched is solved by its opened links.
 use Rattle.std.proofs.Common.{◌≡◌, [], get_or, sym, ◌∙◌, subst}
 use Rattle.fb_graph.specs.Problem.{Problem}
-use Rattle.fb_graph.specs.Certificate.{IsBest, total_value}
+use Rattle.fb_graph.specs.Certificate.{IsCertified, total_value}
 use Rattle.fb_graph.specs.Dual.{all_cuts, leaves}
 use Rattle.fb_graph.specs.Links.{pair}
 use Rattle.fb_laws.specs.OpenedLinks.{EndAtTurn, OpenedLevel, OpenedPerfect, PartSolved, PartIsBest, RowOfPart, opened_links}
@@ -51,6 +51,6 @@ part_is_best p s printed is none are rising =
 pub row_of_part : RowOfPart
 row_of_part p whole s ones printed is none part all odd parity are rising =
     best_of_whole p whole ones _ printed part all
-    (subst (λ l. IsBest p l (total_value (all_cuts s.nodes)) printed)
+    (subst (λ l. IsCertified p l (total_value (all_cuts s.nodes)) printed)
     (sym (odd_edges_only p (opened_links s) ones (opened_perfect p s is none).walks odd parity))
     (part_is_best p s printed is none are rising))

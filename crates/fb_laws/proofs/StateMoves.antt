@@ -137,6 +137,7 @@ state_attached p s e rest even may state = record {
         search =
             search_permuted p s.nodes s.tree s.rest (e.matched ∷ rest) s.unmatched s.root s.parity may.links
             state.search.search;
+        even = state.search.even;
         walks = state.search.walks;
         outer = state.search.outer;
       })
@@ -223,6 +224,7 @@ state_released p s name other out old rest b leaves_tree connects moved away bou
           nest = state.search.nest;
           search =
               search_permuted p s.nodes s.tree s.rest (old ∷ rest) s.unmatched s.root s.parity moved state.search.search;
+          even = state.search.even;
           walks = state.search.walks;
           outer = state.search.outer;
         })

@@ -88,12 +88,12 @@ search_reordered p s cycles rest unmatched agree links_moved names_moved state =
           joined = search.joined;
           grown = search.grown;
           parity = search.parity;
-          even = λ d name leaf cover among.
-              search.even d name leaf cover
-              (is_in-filter (λ n. not (n == s.root)) s.unmatched name
-              ∙ (ap (λ b. b && not (name == s.root)) (sym (same_permuted s.unmatched unmatched names_moved name))
-              ∙ (sym (is_in-filter (λ n. not (n == s.root)) unmatched name) ∙ among)));
         };
+        even = λ d name leaf cover among.
+            state.search.even d name leaf cover
+            (is_in-filter (λ n. not (n == s.root)) s.unmatched name
+            ∙ (ap (λ b. b && not (name == s.root)) (sym (same_permuted s.unmatched unmatched names_moved name))
+            ∙ (sym (is_in-filter (λ n. not (n == s.root)) unmatched name) ∙ among)));
         walks = state.search.walks;
         outer = outer_permuted s.nodes s.unmatched unmatched names_moved state.search.outer;
       };

@@ -2,6 +2,7 @@ pub mod Blossoms
 pub mod Bounds
 pub mod Differences
 pub mod ExchangedDefects
+pub mod Forests
 pub mod Forming
 pub mod FusedStates
 pub mod Fusion
@@ -31,7 +32,6 @@ pub mod SearchBlossoms
 pub mod SearchLayers
 pub mod SearchOpenings
 pub mod Searches
-pub mod Signed
 pub mod SingleDefects
 pub mod StateBlossoms
 pub mod StateFusions

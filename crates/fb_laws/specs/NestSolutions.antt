@@ -2,7 +2,7 @@
 use Rattle.std.specs.Prelude.{ℕ, ◌≡◌, true, List, ◌∷◌, map, All, filter}
 use Rattle.fb_graph.specs.Parity.{is_in}
 use Rattle.fb_graph.specs.Problem.{Problem}
-use Rattle.fb_graph.specs.Certificate.{AreDistinct, AreRising, IsBest, total_value}
+use Rattle.fb_graph.specs.Certificate.{AreDistinct, AreRising, IsCertified, total_value}
 use Rattle.fb_graph.specs.Printed.{HasPositiveCuts}
 use Rattle.fb_graph.specs.Laws.{Link, odd_edges}
 use Rattle.fb_graph.specs.Dual.{Node, all_cuts, is_empty, is_live, leaves, top_at}
@@ -48,4 +48,4 @@ NestResolved = (p : Problem) (nodes : List Node) (links : List Link) (printed : 
     → HasDefects p nodes → IsLevel (positive_cuts nodes) (leaf_sets nodes) links
     → All (IsTightLink p (all_cuts nodes)) links → EndAtDefects p (leaves nodes) links
     → HasPositiveCuts (all_cuts nodes) printed → AreRising printed
-    → IsBest p (odd_edges p links) (total_value (all_cuts nodes)) printed
+    → IsCertified p (odd_edges p links) (total_value (all_cuts nodes)) printed

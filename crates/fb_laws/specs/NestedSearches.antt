@@ -8,7 +8,7 @@ use Rattle.fb_graph.specs.Limits.{IsWithinLimits}
 use Rattle.fb_graph.specs.Laws.{Link, HasNoOddClosed}
 use Rattle.fb_graph.specs.Dual.{Node, is_live}
 use Rattle.fb_graph.specs.Steps.{MayStep, stepped_nodes}
-use Rattle.fb_graph.specs.Covers.{HasNoObstacle}
+use Rattle.fb_graph.specs.Covers.{HasNoObstacle, HaveParity}
 use Rattle.fb_laws.specs.Lengths.{IsGreatestStep}
 use Rattle.fb_graph.specs.Links.{AreEven}
 use Rattle.fb_graph.specs.Singles.{Single, nodes_of, vertices_of}
@@ -30,11 +30,12 @@ pub record IsNestedWork (p : Problem) (nodes : List Node) (links : List Link) (u
   pub walks : HaveWalks p nodes
   pub outer : AreOuterNames nodes unmatched
 
--- what holds while a tree grows
+-- What holds while a tree grows. The potentials of the other unmatched nodes are even.
 pub record IsNestedSearch (p : Problem) (nodes : List Node) (tree : List Entry) (rest : List Link)
     (unmatched : List ℕ) (root r : ℕ) : Type 0 where
   pub nest : IsNest p nodes
   pub search : IsSearch p nodes tree rest unmatched root r
+  pub even : HaveParity (is_in (names_without root unmatched)) nodes 0
   pub walks : HaveWalks p nodes
   pub outer : AreOuterNames nodes unmatched
 

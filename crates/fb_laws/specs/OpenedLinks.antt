@@ -6,7 +6,7 @@ use Rattle.std.specs.List.{list_any}
 use Rattle.std.specs.List.Sorted.{IsStrictlyIncreasing}
 use Rattle.fb_graph.specs.Parity.{is_in, is_odd_count}
 use Rattle.fb_graph.specs.Problem.{Problem}
-use Rattle.fb_graph.specs.Certificate.{AreRising, IsBest, total_value}
+use Rattle.fb_graph.specs.Certificate.{AreRising, IsCertified, total_value}
 use Rattle.fb_graph.specs.Printed.{HasPositiveCuts}
 use Rattle.fb_graph.specs.Laws.{IsPart, Link, IsPerfect, IsSolved, odd_edges}
 use Rattle.fb_graph.specs.Dual.{Node, all_cuts, is_empty}
@@ -75,7 +75,7 @@ PartSolved = (p : Problem) (s : PartState) → IsPartState p s → s.unmatched �
 abbrev pub PartIsBest : Type 0
 PartIsBest = (p : Problem) (s : PartState) (printed : List Cut) → IsPartState p s → s.unmatched ≡ []
     → HasPositiveCuts (all_cuts s.nodes) printed → AreRising printed
-    → IsBest p (odd_edges p (opened_links s)) (total_value (all_cuts s.nodes)) printed
+    → IsCertified p (odd_edges p (opened_links s)) (total_value (all_cuts s.nodes)) printed
 
 -- Written with the edge numbers that the links' walks have an odd number of times, it is a best row of every problem
 -- with the same real vertices and defects.
@@ -86,7 +86,7 @@ RowOfPart = (p whole : Problem) (s : PartState) (ones : List ℕ) (printed : Lis
     → ((k : ℕ) → is_odd_count (λ j. j == k) ones
     ≡ is_odd_count (λ j. j == k) (flat_map (λ l. l.walk) (opened_links s)))
     → HasPositiveCuts (all_cuts s.nodes) printed → AreRising printed
-    → IsBest whole ones (total_value (all_cuts s.nodes)) printed
+    → IsCertified whole ones (total_value (all_cuts s.nodes)) printed
 
 -- When a blossom's turn comes, just one end of the links lies in its children,
 abbrev pub EndAtTurn : Type 0

@@ -3,7 +3,7 @@ use Rattle.std.specs.Prelude.{ℕ, ◌≡◌, ◌<◌, ◌==◌, true, List, All
 use Rattle.std.specs.List.Sorted.{IsStrictlyIncreasing}
 use Rattle.fb_graph.specs.Parity.{is_odd_count}
 use Rattle.fb_graph.specs.Problem.{Problem}
-use Rattle.fb_graph.specs.Certificate.{AreRising, IsBest, total_value}
+use Rattle.fb_graph.specs.Certificate.{AreRising, IsCertified, total_value}
 use Rattle.fb_graph.specs.Components.{IsWalkBy}
 use Rattle.fb_graph.specs.Printed.{HasPositiveCuts}
 use Rattle.fb_graph.specs.Laws.{IsPart, IsSolved, Link, odd_edges, odd_ones}
@@ -28,11 +28,11 @@ OddEdgesOnly = (p : Problem) (links : List Link) (ones : List ℕ) → All (λ l
 -- A best row of a part that has every real vertex of the whole is one of the whole.
 abbrev pub BestOfWhole : Type 0
 BestOfWhole = (part whole : Problem) (chosen : List ℕ) (weight : ℕ) (cuts : List Cut) → IsPart part whole
-    → ((v : ℕ) → whole.is_real v ≡ true → part.is_real v ≡ true) → IsBest part chosen weight cuts
-    → IsBest whole chosen weight cuts
+    → ((v : ℕ) → whole.is_real v ≡ true → part.is_real v ≡ true) → IsCertified part chosen weight cuts
+    → IsCertified whole chosen weight cuts
 
 -- The cuts of a solved nest, printed in rising order, certify its correction.
 abbrev pub SolvedIsBest : Type 0
 SolvedIsBest = (p : Problem) (nodes : List Node) (chosen : List ℕ) (printed : List Cut) → IsNest p nodes
     → HasDefects p nodes → IsSolved p (positive_cuts nodes) chosen → HasPositiveCuts (all_cuts nodes) printed
-    → AreRising printed → IsBest p chosen (total_value (all_cuts nodes)) printed
+    → AreRising printed → IsCertified p chosen (total_value (all_cuts nodes)) printed

@@ -18,8 +18,8 @@ use Rattle.fb_laws.specs.Trees.{Entry, Connects, IsTree, grown_links, paired_lin
 abbrev pub IsOuterNode : List Node → ℕ → Type 0
 IsOuterNode nodes name = (d : ℕ) × (is_in (leaves nodes) d ≡ true) × (cover_of nodes d ≡ Some name)
 
--- The matched links are those of the tree and the rest. All defects under the tree have one parity; the potentials of
--- the other unmatched nodes are even.
+-- The matched links are those of the tree and the rest. All defects under the tree have one parity. Nothing is said of
+-- the potentials of other unmatched nodes: they may be the roots of other trees.
 pub record IsSearch (p : Problem) (nodes : List Node) (tree : List Entry) (rest : List Link) (unmatched : List ℕ) (root r : ℕ) : Type 0 where
   pub matching : IsMatching p nodes (paired_links tree ++ rest) unmatched
   pub root_is : IsOuterNode nodes root
@@ -28,7 +28,6 @@ pub record IsSearch (p : Problem) (nodes : List Node) (tree : List Entry) (rest 
   pub joined : IsTree nodes root tree
   pub grown : AreMatchedLinks p nodes (grown_links tree)
   pub parity : HaveParity (is_in (tree_names root tree)) nodes r
-  pub even : HaveParity (is_in (names_without root unmatched)) nodes 0
 
 -- A search begins with an unmatched node as the whole tree.
 abbrev pub SearchBegins : Type 0
@@ -98,6 +97,7 @@ LeavesNode nodes l name v =
 abbrev pub SearchEnded : Type 0
 SearchEnded = (p : Problem) (nodes : List Node) (tree : List Entry) (rest : List Link) (unmatched : List ℕ)
     (root r name : ℕ) (out : Link) (v : ℕ) → IsSearch p nodes tree rest unmatched root r
+    → HaveParity (is_in (names_without root unmatched)) nodes 0
     → is_in (plus_names root tree) name ≡ true → AreMatchedLinks p nodes (out ∷ []) → LeavesNode nodes out name v
     → p.is_real v ≡ false
     → IsWork p nodes (grown_links (path_to tree name) ++ out ∷ (paired_links (branches_beside tree name) ++ rest))
@@ -107,6 +107,7 @@ SearchEnded = (p : Problem) (nodes : List Node) (tree : List Entry) (rest : List
 abbrev pub SearchMet : Type 0
 SearchMet = (p : Problem) (nodes : List Node) (tree : List Entry) (rest : List Link) (unmatched : List ℕ)
     (root r name other : ℕ) (out : Link) → IsSearch p nodes tree rest unmatched root r
+    → HaveParity (is_in (names_without root unmatched)) nodes 0
     → is_in (plus_names root tree) name ≡ true → is_in unmatched other ≡ true → (root ≡ other → ⊥)
     → AreMatchedLinks p nodes (out ∷ []) → Connects nodes out name other
     → IsWork p nodes (grown_links (path_to tree name) ++ out ∷ (paired_links (branches_beside tree name) ++ rest))
@@ -116,7 +117,8 @@ SearchMet = (p : Problem) (nodes : List Node) (tree : List Entry) (rest : List L
 abbrev pub SearchReleased : Type 0
 SearchReleased = (p : Problem) (nodes : List Node) (tree : List Entry) (old : Link) (rest : List Link)
     (unmatched : List ℕ) (root r name other : ℕ) (out : Link) (b : ℕ)
-    → IsSearch p nodes tree (old ∷ rest) unmatched root r → is_in (plus_names root tree) name ≡ true
+    → IsSearch p nodes tree (old ∷ rest) unmatched root r
+    → HaveParity (is_in (names_without root unmatched)) nodes 0 → is_in (plus_names root tree) name ≡ true
     → AreMatchedLinks p nodes (out ∷ []) → Connects nodes out name other → LeavesNode nodes old other b
     → p.is_real b ≡ false
     → IsWork p nodes (grown_links (path_to tree name) ++ out ∷ (paired_links (branches_beside tree name) ++ rest))

@@ -6,6 +6,7 @@
 pub mod blossoms;
 pub mod bridges;
 pub mod cycles;
+pub mod forests;
 pub mod forming;
 pub mod held;
 pub mod joining;
@@ -31,6 +32,7 @@ pub mod unmatched;
 pub use blossoms::{blossom_formed, blossom_opened, odd_cycle};
 pub use bridges::{blossom_named, moves_lower, uncovered_back};
 pub use cycles::{cycle_closed, cycle_opened};
+pub use forests::{forest_attached, forest_begins, forest_ended, forest_stepped, forest_trees};
 pub use forming::matching_formed;
 pub use held::held_in_sets;
 pub use joining::search_joined;

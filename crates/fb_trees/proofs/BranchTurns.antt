@@ -17,7 +17,7 @@ use Rattle.fb_regions.specs.Moves.{node_named}
 use Rattle.fb_regions.proofs.Listed.{not_before}
 use Rattle.fb_trees.specs.Branches.{Grown, entries_of, entry_of}
 use Rattle.fb_trees.specs.declared.branch.Branch.{Branch}
-use Rattle.fb_trees.specs.InternalSteps.{IsTreeOver, roles_by_names}
+use Rattle.fb_trees.specs.InternalSteps.{AreOver, IsTreeOver, roles_by_names}
 use Rattle.fb_trees.proofs.NodeTurns.{grown_turn, minus_turn, plus_turn, shrunk_turn}
 use Rattle.fb_graph.proofs.Floods.{is_in-left}
 use Rattle.std.specs.List.Sorted.{IsPermutation}
@@ -51,12 +51,22 @@ plus_moved root bs =
     (IsPermutation-map (λ b. b.plus) bs (reverse bs) (IsPermutation-reverse bs)))
     (IsPermutation-append_comm (root ∷ []) (plus_of (reverse bs))))
 
-before_is_in : (xs : List ℕ) (i n : ℕ) → is_in (take i xs) n ≡ true → is_in xs n ≡ true
+pub before_is_in : (xs : List ℕ) (i n : ℕ) → is_in (take i xs) n ≡ true → is_in xs n ≡ true
 before_is_in xs i n within =
     subst (λ l. is_in l n ≡ true) (take-append-drop i xs) (is_in-left (take i xs) (drop i xs) n within)
 
 module _ (p : Problem) (t : Grown) (nodes : List Node) (are : IsTreeOver p t nodes) (k : ℕ)
     (may : MayStep p (roles_of t.root t.branches) nodes k) (bs : List Branch) (read : entries_of bs ≡ t.branches) where
+  over : AreOver p (plus_names t.root t.branches) (minus_names t.branches) nodes
+  over = record {
+    roles = are.roles;
+    plus_once = are.plus;
+    minus_once = are.minus;
+    plus_live = are.plus_live;
+    minus_live = are.minus_live;
+    crossed = are.crossed;
+  }
+
   same_minus : (n : ℕ) → is_in (minus_of bs) n ≡ is_in (minus_names t.branches) n
   same_minus n =
       sym (same_permuted (minus_of bs) (minus_names (entries_of bs)) (minus_moved bs) n)
@@ -133,7 +143,7 @@ module _ (p : Problem) (t : Grown) (nodes : List Node) (are : IsTreeOver p t nod
       × (is_outer (stepped_nodes (roles_by_names [] (minus_of (take i bs))) k nodes) (get_or bs i d).minus ≡ true)
       × (k ≤ (node_named (stepped_nodes (roles_by_names [] (minus_of (take i bs))) k nodes) (get_or bs i d).minus).top.value)
   minus_may i d less =
-      minus_turn p t nodes are (minus_of (take i bs)) k (get_or bs i d).minus may (is_minus i d less) (new_minus i d less)
+      minus_turn p (plus_names t.root t.branches) (minus_names t.branches) nodes over (minus_of (take i bs)) k (get_or bs i d).minus may (is_minus i d less) (new_minus i d less)
 
   pub minus_done : (i : ℕ) (d : Branch) → i < length bs
       → change_at (get_or bs i d).minus (thinner_node k) (stepped_nodes (roles_by_names [] (minus_of (take i bs))) k nodes)
@@ -148,7 +158,7 @@ module _ (p : Problem) (t : Grown) (nodes : List Node) (are : IsTreeOver p t nod
       × IsCrossed p (top_at (stepped_nodes (roles_by_names [] (minus_of (take i bs))) k nodes) t.root)
       × AllowsGrowth p (stepped_nodes (roles_by_names [] (minus_of (take i bs))) k nodes) (top_at (stepped_nodes (roles_by_names [] (minus_of (take i bs))) k nodes) t.root) k
   root_may i all =
-      plus_turn p t nodes are [] (minus_of (take i bs)) k t.root may
+      plus_turn p (plus_names t.root t.branches) (minus_names t.branches) nodes over [] (minus_of (take i bs)) k t.root may
       (λ n. ap (λ l. is_in (minus_of l) n) (take_all i bs all) ∙ same_minus n)
       (λ n none. absurd (false≢true none)) root_is_plus refl
 
@@ -165,7 +175,7 @@ module _ (p : Problem) (t : Grown) (nodes : List Node) (are : IsTreeOver p t nod
       × IsCrossed p (top_at (stepped_nodes (roles_by_names (t.root ∷ plus_of (take i bs)) (minus_of bs)) k nodes) (get_or bs i d).plus)
       × AllowsGrowth p (stepped_nodes (roles_by_names (t.root ∷ plus_of (take i bs)) (minus_of bs)) k nodes) (top_at (stepped_nodes (roles_by_names (t.root ∷ plus_of (take i bs)) (minus_of bs)) k nodes) (get_or bs i d).plus) k
   plus_may i d less =
-      plus_turn p t nodes are (t.root ∷ plus_of (take i bs)) (minus_of bs) k (get_or bs i d).plus may same_minus (plus_before i)
+      plus_turn p (plus_names t.root t.branches) (minus_names t.branches) nodes over (t.root ∷ plus_of (take i bs)) (minus_of bs) k (get_or bs i d).plus may same_minus (plus_before i)
       (is_plus i d less) (new_plus i d less)
 
   pub plus_done : (i : ℕ) (d : Branch) → i < length bs

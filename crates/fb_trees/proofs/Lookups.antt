@@ -270,3 +270,10 @@ minus_branch t name e rooted minus is = record {
 pub minus_has_branch : (t : Grown) (name : ℕ) → is_in (minus_names t.branches) name ≡ true → None ≡ branch_at t.branches name → ⊥
 minus_has_branch t name minus none =
     both_ways (is_in (minus_names t.branches) name) (no_branch_plus t.root t.branches name (sym none)).1 minus
+
+-- what a table that other trees share has for a node of the tree
+pub read_own : (root : ℕ) (es : List (EntryOf ℕ)) (name : ℕ) {places table : List (Option ℕ)} {at : Option ℕ}
+    → ((n : ℕ) → is_in (tree_names root es) n ≡ true → place_in places n ≡ place_of es n) → is_in (tree_names root es) name ≡ true
+    → table ≡ places → at ≡ place_in table name → place_of es name ≡ at
+read_own root es name placed within same is =
+    sym (placed name within) ∙ (ap (λ l. place_in l name) (sym same) ∙ sym is)

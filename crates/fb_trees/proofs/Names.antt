@@ -33,3 +33,9 @@ exclusive_names root tree distinct n plus =
     ap (λ l. is_in l n) (sym (minus_moved no_link tree))
     ∙ laws.exclusive_names root (linked tree) (subst AreDistinct (sym (names_moved no_link root tree)) distinct) n
     (ap (λ l. is_in l n) (plus_moved no_link root tree) ∙ plus)
+
+pub minus_in_names : (root : ℕ) (tree : List (EntryOf ℕ)) (n : ℕ) → is_in (minus_names tree) n ≡ true
+    → is_in (tree_names root tree) n ≡ true
+minus_in_names root tree n minus =
+    ap (λ l. is_in l n) (sym (names_moved no_link root tree))
+    ∙ laws.minus_in_tree root (linked tree) n (ap (λ l. is_in l n) (minus_moved no_link tree) ∙ minus)

@@ -12,10 +12,8 @@ use Rattle.fb_graph.proofs.MappedNodes.{mapped_outer, mapped_live}
 use Rattle.fb_graph.proofs.Members.{is_in_push}
 use Rattle.fb_graph.proofs.Sets.{equal_sym}
 use Rattle.fb_graph.proofs.StepTurns.{grown_next, growth_allowed, same_roles, shrink_allowed, shrunk_next, top_stepped}
-use Rattle.fb_laws.specs.Trees.{minus_names, plus_names, roles_of}
 use Rattle.fb_regions.specs.Moves.{node_named}
-use Rattle.fb_trees.specs.Branches.{Grown}
-use Rattle.fb_trees.specs.InternalSteps.{IsTreeOver, roles_by_names}
+use Rattle.fb_trees.specs.InternalSteps.{AreOver, roles_by_names}
 
 -- one more node that shrinks
 pub shrunk_turn : (done : List ℕ) (k name : ℕ) (nodes : List Node) → is_in done name ≡ false
@@ -57,24 +55,24 @@ still_outer : (roles : Roles) (k name : ℕ) (nodes : List Node) → is_outer no
     → is_outer (stepped_nodes roles k nodes) name ≡ true
 still_outer roles k name nodes outer = mapped_outer (stepped_node roles k) (λ n. refl) nodes name ∙ outer
 
-module _ (p : Problem) (t : Grown) (nodes : List Node) (are : IsTreeOver p t nodes) where
-  plus_outer : (name : ℕ) → is_in (plus_names t.root t.branches) name ≡ true → is_outer nodes name ≡ true
+module _ (p : Problem) (all_plus all_minus : List ℕ) (nodes : List Node) (are : AreOver p all_plus all_minus nodes) where
+  plus_outer : (name : ℕ) → is_in all_plus name ≡ true → is_outer nodes name ≡ true
   plus_outer name plus =
       let (m, among, named) = live_among nodes name (are.plus_live name plus) in
       subst (λ x. is_outer nodes x ≡ true) named
-      (All_among (λ n. (roles_of t.root t.branches).is_plus n.name ≡ true → is_outer nodes n.name ≡ true) nodes are.roles.plus m among
-      (ap (is_in (plus_names t.root t.branches)) named ∙ plus))
+      (All_among (λ n. (roles_by_names all_plus all_minus).is_plus n.name ≡ true → is_outer nodes n.name ≡ true) nodes are.roles.plus m among
+      (ap (is_in all_plus) named ∙ plus))
 
-  minus_outer : (name : ℕ) → is_in (minus_names t.branches) name ≡ true → is_outer nodes name ≡ true
+  minus_outer : (name : ℕ) → is_in all_minus name ≡ true → is_outer nodes name ≡ true
   minus_outer name minus =
       let (m, among, named) = live_among nodes name (are.minus_live name minus) in
       subst (λ x. is_outer nodes x ≡ true) named
-      (All_among (λ n. (roles_of t.root t.branches).is_minus n.name ≡ true → is_outer nodes n.name ≡ true) nodes are.roles.minus m among
-      (ap (is_in (minus_names t.branches)) named ∙ minus))
+      (All_among (λ n. (roles_by_names all_plus all_minus).is_minus n.name ≡ true → is_outer nodes n.name ≡ true) nodes are.roles.minus m among
+      (ap (is_in all_minus) named ∙ minus))
 
   -- a minus node may shrink in its turn
-  pub minus_turn : (done : List ℕ) (k name : ℕ) → MayStep p (roles_of t.root t.branches) nodes k
-      → is_in (minus_names t.branches) name ≡ true → is_in done name ≡ false
+  pub minus_turn : (done : List ℕ) (k name : ℕ) → MayStep p (roles_by_names all_plus all_minus) nodes k
+      → is_in all_minus name ≡ true → is_in done name ≡ false
       → (is_live (stepped_nodes (roles_by_names [] done) k nodes) name ≡ true)
       × (is_outer (stepped_nodes (roles_by_names [] done) k nodes) name ≡ true)
       × (k ≤ (node_named (stepped_nodes (roles_by_names [] done) k nodes) name).top.value)
@@ -83,14 +81,14 @@ module _ (p : Problem) (t : Grown) (nodes : List Node) (are : IsTreeOver p t nod
         live,
         still_outer (roles_by_names [] done) k name nodes (minus_outer name minus),
         named_value (stepped_nodes (roles_by_names [] done) k nodes) k name live
-            (shrink_allowed p (roles_by_names [] done) (roles_of t.root t.branches) nodes k name may minus new refl),
+            (shrink_allowed p (roles_by_names [] done) (roles_by_names all_plus all_minus) nodes k name may minus new refl),
       )
 
   -- a plus node may grow in its turn
-  pub plus_turn : (done minus : List ℕ) (k name : ℕ) → MayStep p (roles_of t.root t.branches) nodes k
-      → ((n : ℕ) → is_in minus n ≡ is_in (minus_names t.branches) n)
-      → ((n : ℕ) → is_in done n ≡ true → is_in (plus_names t.root t.branches) n ≡ true)
-      → is_in (plus_names t.root t.branches) name ≡ true → is_in done name ≡ false
+  pub plus_turn : (done minus : List ℕ) (k name : ℕ) → MayStep p (roles_by_names all_plus all_minus) nodes k
+      → ((n : ℕ) → is_in minus n ≡ is_in all_minus n)
+      → ((n : ℕ) → is_in done n ≡ true → is_in all_plus n ≡ true)
+      → is_in all_plus name ≡ true → is_in done name ≡ false
       → (is_live (stepped_nodes (roles_by_names done minus) k nodes) name ≡ true)
       × (is_outer (stepped_nodes (roles_by_names done minus) k nodes) name ≡ true)
       × IsCrossed p (top_at (stepped_nodes (roles_by_names done minus) k nodes) name)
@@ -102,6 +100,6 @@ module _ (p : Problem) (t : Grown) (nodes : List Node) (are : IsTreeOver p t nod
         still_outer part k name nodes (plus_outer name plus),
         subst (IsCrossed p) top (are.crossed name plus),
         subst (λ set. AllowsGrowth p (stepped_nodes part k nodes) set k) top
-            (growth_allowed p part (roles_of t.root t.branches) nodes k name are.roles.exclusive may
+            (growth_allowed p part (roles_by_names all_plus all_minus) nodes k name are.roles.exclusive may
             (record { minus = same; plus = within }) plus new),
       )

@@ -11,11 +11,12 @@ use Rattle.fb_links.specs.declared.cycle.CycleStep.{CycleStep}
 use Rattle.fb_laws.specs.Trees.{EntryOf, plus_names, tree_names}
 use Rattle.fb_laws.specs.SearchBlossoms.{AreBranches, joined_tree, outer_branches, renamed_name, renamed_entry}
 use Rattle.fb_laws.specs.OpenedCycles.{PassOf, opened_branches, opened_tree}
+use Rattle.fb_laws.proofs.JoinedTrees as laws
 use Rattle.fb_laws.proofs.JoinedTrees.{distinct_kept}
 use Rattle.fb_laws.proofs.OpenedCycles.{still_plus}
 use Rattle.fb_trees.specs.Branches.{Grown}
 use Rattle.fb_trees.specs.Replacements.{MayJoin, MayOpen, first_node, way_from, way_of}
-use Rattle.fb_trees.specs.Rooted.{AreHung, AreTakenIn, IsRooted}
+use Rattle.fb_trees.specs.Rooted.{AreHung, AreTakenIn, IsRooted, is_node}
 use Rattle.fb_trees.specs.TreeLinks.{map_entry, map_pass}
 use Rattle.fb_trees.proofs.Mapped.{joined_moved, names_moved, opened_moved, plus_moved}
 use Rattle.fb_trees.proofs.Names.{no_link}
@@ -110,6 +111,25 @@ joined_rooted t gone name rooted may = record {
   names = names_kept (is_in gone) name may.base t.root t.branches may.taken rooted.names may.fresh;
   hung = hung_kept (is_in gone) name may.base t.root t.branches rooted.hung may.taken;
 }
+
+-- its nodes are old ones, and the blossom
+pub joined_names : (t : Grown) (gone : List ℕ) (name : ℕ) → MayJoin t gone name → (n : ℕ)
+    → is_in (tree_names (renamed_name (is_in gone) name t.root) (joined_tree (is_in gone) name t.branches)) n ≡ true
+    → (is_node t n ≡ true) ⊎ (n ≡ name)
+joined_names t gone name may n within =
+    by
+    (laws.names_kept (is_in gone) name may.base t.root (map (map_entry no_link) t.branches)
+    (linked_taken (is_in gone) name may.base t.root t.branches may.taken) n
+    (ap (λ l. is_in l n)
+    (ap (tree_names (renamed_name (is_in gone) name t.root)) (joined_moved no_link (is_in gone) name t.branches)
+    ∙ names_moved no_link (renamed_name (is_in gone) name t.root) (joined_tree (is_in gone) name t.branches))
+    ∙ within))
+  where
+    by : (is_in (tree_names t.root (map (map_entry no_link) t.branches)) n ≡ true) × (is_in gone n ≡ false)
+        ⊎ (n ≡ name) × (is_in (tree_names t.root (map (map_entry no_link) t.branches)) may.base ≡ true)
+        → (is_node t n ≡ true) ⊎ (n ≡ name)
+    by (inl (old, out)) = inl (ap (λ l. is_in l n) (sym (names_moved no_link t.root t.branches)) ∙ old)
+    by (inr (new, base)) = inr new
 
 -- a blossom opened: the nodes of a way
 abbrev nodes_on : ℕ → List (PassOf ℕ) → List ℕ
@@ -333,3 +353,21 @@ opened_rooted t name path rooted may newer older e is =
     (subst AreDistinct nodes may.distinct)
     (λ n among. ap (λ l. is_in (tree_names t.root l) n) (sym is) ∙ may.fresh n (ap (λ l. is_in l n) nodes ∙ among)) in
     laid.rooted
+
+-- its nodes are old ones, and those of the path
+pub opened_names : (t : Grown) (name : ℕ) (path : List CycleStep) → IsRooted t.root t.branches → MayOpen t name path
+    → (newer older : List (EntryOf ℕ)) (e : EntryOf ℕ) → t.branches ≡ newer ++ e ∷ older → (n : ℕ)
+    → is_in (tree_names t.root (opened_tree newer e older (first_node path) (way_of path))) n ≡ true
+    → (is_node t n ≡ true) ⊎ (is_in (map (λ (x : CycleStep). x.node) path) n ≡ true)
+opened_names t name path rooted may newer older e is n within =
+    let nodes = odd_path_nodes path may.odd in
+    let laid = laid_in t.root newer older e (first_node path) (way_of path) (subst (IsRooted t.root) is rooted)
+    (subst AreDistinct nodes may.distinct)
+    (λ m among. ap (λ l. is_in (tree_names t.root l) m) (sym is) ∙ may.fresh m (ap (λ l. is_in l m) nodes ∙ among)) in
+    by nodes (laid.within n within)
+  where
+    by : map (λ (x : CycleStep). x.node) path ≡ nodes_on (first_node path) (way_of path)
+        → (is_in (nodes_on (first_node path) (way_of path)) n ≡ true) ⊎ (is_in (tree_names t.root (newer ++ e ∷ older)) n ≡ true)
+        → (is_node t n ≡ true) ⊎ (is_in (map (λ (x : CycleStep). x.node) path) n ≡ true)
+    by nodes (inl new) = inr (ap (λ l. is_in l n) nodes ∙ new)
+    by nodes (inr old) = inl (ap (λ l. is_in (tree_names t.root l) n) is ∙ old)

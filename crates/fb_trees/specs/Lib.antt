@@ -1,4 +1,6 @@
 pub mod Branches
+pub mod Forests
+pub mod InternalForests
 pub mod InternalMetWalks
 pub mod InternalNames
 pub mod InternalPaths

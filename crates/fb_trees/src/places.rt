@@ -1,7 +1,7 @@
 ghost use Rattle.std.specs.Prelude.{◌≡◌, ◌≤◌, ◌<◌, ◌==◌, ◌||◌, [], ℕ, None, Some, All, OnOk, length, vec_capacity, if◌then◌else◌};
 ghost use Rattle.fb_regions.specs.InternalPlaces.{place_in};
 ghost use Rattle.fb_trees.specs.Branches.{entries_of};
-ghost use Rattle.fb_trees.specs.InternalPlaces.{ArePlaces, IsWithin};
+ghost use Rattle.fb_trees.specs.InternalPlaces.{ArePlaces, IsWithin, has_branch, place_of, place_or};
 
 use crate::{Branch, NoMemory, NodeId};
 
@@ -45,7 +45,7 @@ pub fn make_room_behind(
 }
 
 /// Makes room for both nodes of the branch.
-fn make_room(places: &mut Places, branch: &Branch) -> Result<(), NoMemory>
+pub fn make_room(places: &mut Places, branch: &Branch) -> Result<(), NoMemory>
     ensures same { (name : ℕ) → place_in places.new.items name ≡ place_in places.old.items name }
     ensures longer { length places.old.items ≤ length places.new.items }
     ensures room { OnOk result (IsWithin (length places.new.items) branch.now) }
@@ -55,7 +55,7 @@ fn make_room(places: &mut Places, branch: &Branch) -> Result<(), NoMemory>
 }
 
 /// Makes room for the node.
-fn widen(places: &mut Places, node: NodeId) -> Result<(), NoMemory>
+pub fn widen(places: &mut Places, node: NodeId) -> Result<(), NoMemory>
     ensures same { (name : ℕ) → place_in places.new.items name ≡ place_in places.old.items name }
     ensures longer { length places.old.items ≤ length places.new.items }
     ensures room { OnOk result (node < length places.new.items) }
@@ -69,11 +69,11 @@ fn widen(places: &mut Places, node: NodeId) -> Result<(), NoMemory>
     Ok(())
 }
 
-/// Enters the nodes of the branches, the oldest one first. No node is entered yet.
+/// Enters the nodes of the branches, the oldest one first. Other entries stay.
 pub fn enter_all(places: &mut Places, branches: &[Branch])
-    requires room { All (IsWithin (length places.old.items)) branches.now }
-    requires empty { ArePlaces places.old.items [] }
-    ensures { ArePlaces places.new.items (entries_of branches.now) }
+    requires { All (IsWithin (length places.old.items)) branches.now }
+    ensures entries { (name : ℕ) → place_in places.new.items name ≡ place_or (place_of (entries_of branches.now) name) (place_in places.old.items name) }
+    ensures places { ArePlaces places.old.items [] → ArePlaces places.new.items (entries_of branches.now) }
 {
     for (at, branch) in branches.iter().enumerate() {
         enter(places, branch, at);
@@ -90,11 +90,22 @@ pub fn enter(places: &mut Places, branch: &Branch, at: usize)
     places[branch.plus as usize] = Some(at);
 }
 
+/// Enters the tree of this number for both nodes of each branch. Other entries stay.
+pub fn enter_owner(owners: &mut Places, branches: &[Branch], tree: usize)
+    requires { All (IsWithin (length owners.old.items)) branches.now }
+    ensures count { length owners.new.items ≡ length owners.old.items }
+    ensures entries { (name : ℕ) → place_in owners.new.items name ≡ (if has_branch (entries_of branches.now) name then Some tree else place_in owners.old.items name) }
+{
+    for branch in branches {
+        enter(owners, branch, tree);
+    }
+}
+
 /// Takes the entries of all branches out. Takes time for each of them, however large a name is.
 pub fn take_out_all(places: &mut Places, branches: &[Branch])
-    requires { ArePlaces places.old.items (entries_of branches.now) }
     ensures count { length places.new.items ≡ length places.old.items }
-    ensures empty { ArePlaces places.new.items [] }
+    ensures entries { (name : ℕ) → place_in places.new.items name ≡ (if has_branch (entries_of branches.now) name then None else place_in places.old.items name) }
+    ensures empty { ArePlaces places.old.items (entries_of branches.now) → ArePlaces places.new.items [] }
 {
     for branch in branches {
         remove(places, branch.minus);
@@ -103,7 +114,7 @@ pub fn take_out_all(places: &mut Places, branches: &[Branch])
 }
 
 /// Takes the entry of the node out, if it has one.
-fn remove(places: &mut Places, node: NodeId)
+pub fn remove(places: &mut Places, node: NodeId)
     ensures count { length places.new.items ≡ length places.old.items }
     ensures places { (name : ℕ) → place_in places.new.items name ≡ (if node == name then None else place_in places.old.items name) }
 {

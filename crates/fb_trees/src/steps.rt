@@ -1,7 +1,8 @@
-ghost use Rattle.std.specs.Prelude.{◌≡◌, ◌≤◌, ◌==◌, ◌++◌, ◌∷◌, [], map, length, IfOk, OnOk, if◌then◌else◌};
+ghost use Rattle.std.specs.Prelude.{◌≡◌, ◌≤◌, ◌<◌, ◌==◌, get_or, ◌++◌, ◌∷◌, [], map, length, IfOk, OnOk, if◌then◌else◌};
 ghost use Rattle.fb_laws.specs.Trees.{branches_beside};
 ghost use Rattle.fb_laws.specs.TreeCycles.{last_plus};
 ghost use Rattle.fb_trees.specs.Branches.{entries_of, entry_of};
+ghost use Rattle.fb_trees.specs.declared.branch.Branch.{Branch};
 ghost use Rattle.fb_trees.specs.TreeSteps.{steps_up};
 ghost use Rattle.fb_trees.specs.InternalPaths.{common_count, steps_down};
 
@@ -21,6 +22,14 @@ pub fn shared_count(up: &[Branch], down: &[Branch]) -> usize
         }
     }
     shorter
+}
+
+/// The branch at the place.
+pub fn branch_in(branches: &[Branch], place: usize) -> Branch
+    requires { place < length branches.now }
+    ensures { (b : Branch) → result ≡ get_or branches.now place b }
+{
+    branches[place]
 }
 
 /// The branches that are not on the way to the plus node, the newest one first.

@@ -6,14 +6,15 @@ ghost use Rattle.fb_trees.specs.Branches.{Grown, entries_of, entry_of};
 ghost use Rattle.fb_trees.specs.Rooted.{IsBranchAt, IsMinus, IsPlus, IsRooted, attached_grown, bare, is_node, role_in};
 ghost use Rattle.fb_links.specs.Table.{is_live};
 ghost use Rattle.fb_trees.specs.Replacements.{AreLinkedOn, IsOpened, IsReplaced, MayJoin, MayOpen, MayReplace, joined_grown};
-ghost use Rattle.fb_trees.specs.TreeSteps.{IsCycle, path_up, steps_up};
+ghost use Rattle.fb_trees.specs.TreeSteps.{IsCycle, path_up};
 ghost use Rattle.fb_trees.specs.InternalPlaces.{branch_at};
 
 use crate::changes::{joined_branches, names_of, opened_branches, renamed_name};
 use crate::places::{
     Places, enter, enter_all, make_room_behind, make_room_for_all, place_in, take_out_all,
 };
-use crate::steps::{branches_beside, cycle_along, last_plus, push_step, push_up, shared_count};
+use crate::steps::branches_beside;
+use crate::tree_view::TreeView;
 use crate::{Branch, CycleStep, LinkId, Links, NoMemory, NodeId, Role, Roles};
 use std::alloc::Global;
 use std::marker::Model;
@@ -145,10 +146,7 @@ impl Tree {
         requires { IsMinus self.now minus }
         ensures { IsBranchAt self.now minus (entry_of result) }
     {
-        let Some(branch) = self.branch_of(minus) else {
-            unreachable!()
-        };
-        branch
+        self.view().branch(minus)
     }
 
     /// The nodes from a node of the tree up, each with the link to its parent. The root is not listed.
@@ -156,18 +154,7 @@ impl Tree {
         requires { is_node self.now node ≡ true }
         ensures { IfOk result (λ path. path.items ≡ path_up self.now node) }
     {
-        let mut path = Vec::new(alloc);
-        match self.branch_of(node) {
-            Some(branch) if branch.minus == node => {
-                push_step(&mut path, node, branch.tree)?;
-                self.push_path(alloc, branch.parent, &mut path)?;
-                Ok(path)
-            }
-            _ => {
-                self.push_path(alloc, node, &mut path)?;
-                Ok(path)
-            }
-        }
+        self.view().path_to_root(alloc, node)
     }
 
     /// The cycle that a link between the plus nodes a and b closes, from its base on, where the paths to the two part.
@@ -189,12 +176,7 @@ impl Tree {
         ensures many { IfOk result (λ cycle. AreMany (map (λ s. s.node) cycle.items)) }
     {
         let _ = links;
-        let up = self.branches_to(alloc, a)?;
-        let down = self.branches_to(alloc, b)?;
-        let shared = shared_count(&up, &down);
-        let (shared_up, up) = up.split_at(shared);
-        let (_shared_down, down) = down.split_at(shared);
-        cycle_along(alloc, last_plus(self.root, shared_up), up, closing, down)
+        self.view().cycle_of(alloc, a, b, closing)
     }
 
     /// The branches from the root to the plus node, the one at the root first.
@@ -203,14 +185,7 @@ impl Tree {
         ensures path { IfOk result (λ path. map entry_of path.items ≡ path_to self.now.branches plus) }
         ensures kept { IsRooted self.now.root self.now.branches }
     {
-        let mut path = Vec::new(alloc);
-        let mut node = plus;
-        while let Some(branch) = self.branch_of(node) {
-            path.push(branch)?;
-            node = branch.parent;
-        }
-        path.reverse();
-        Ok(path)
+        self.view().branches_to(alloc, plus)
     }
 
     /// The branches that are not on the way from the root to the plus node, the newest one first. Takes time for each
@@ -219,20 +194,6 @@ impl Tree {
         ensures { IfOk result (λ others. map entry_of others.items ≡ branches_beside self.now.branches plus) }
     {
         branches_beside(alloc, &self.branches, plus)
-    }
-
-    /// Adds the nodes from the plus node up, each with the link to its parent.
-    fn push_path(
-        &self,
-        alloc: Global,
-        plus: NodeId,
-        steps: &mut Vec<CycleStep>,
-    ) -> Result<(), NoMemory>
-        requires { IsPlus self.now plus }
-        ensures { OnOk result (steps.new.items ≡ steps.old.items ++ steps_up (path_to self.now.branches plus)) }
-    {
-        let path = self.branches_to(alloc, plus)?;
-        push_up(steps, &path)
     }
 
     /// Takes the nodes of `gone` out of the tree and puts those of `path` in their place. For a blossom formed of a
@@ -298,6 +259,17 @@ impl Tree {
         self.root = root;
         self.branches = branches;
         Ok(())
+    }
+
+    /// The tree with its table.
+    fn view(&self) -> TreeView<'_>
+        ensures { result ≡ self.now }
+    {
+        TreeView {
+            root: self.root,
+            branches: &self.branches,
+            places: &self.places,
+        }
     }
 
     /// The branch of the node. The root has none.
