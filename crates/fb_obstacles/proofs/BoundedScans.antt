@@ -25,7 +25,7 @@ use Rattle.fb_obstacles.specs.Obstacles.{BearsStep, Obstructs, residue_of, roles
 use Rattle.fb_obstacles.specs.Watched.{Watched, AreBounded}
 use Rattle.fb_obstacles.specs.InnerEdges.{LeavesInner}
 use Rattle.fb_obstacles.specs.InternalWatch.{IsNext, Reorders}
-use Rattle.fb_obstacles.specs.InternalLooks.{BearBeside, BearsShrinking, HasScanned, IsSeen, Limits, LimitsBoth, LimitsMinus, both_looks, bound_by, edge_look, fits_within}
+use Rattle.fb_obstacles.specs.InternalLooks.{BearBeside, HasScanned, IsAtMostEach, IsSeen, Limits, LimitsBoth, LimitsMinus, both_looks, bound_by, edge_look, fits_within}
 use Rattle.fb_obstacles.proofs.EdgeLooks.{look_bound}
 use Rattle.fb_obstacles.proofs.EdgeScans.{edge_looked}
 use Rattle.fb_obstacles.proofs.LeftEdges.{outer_edge}
@@ -81,10 +81,10 @@ taken_before xs i within =
 
 -- what a scan knows when it has come to a place: what the minus nodes allow, and the edges but for those before the place,
 -- behind which none waits in the queue
-pub record IsScanned (p : Problem) (role_of : ℕ → Role) (nodes : List Node) (names : List ℕ) (old new : Watched)
+pub record IsScanned (p : Problem) (role_of : ℕ → Role) (nodes : List Node) (tops : List ℕ) (old new : Watched)
     (place : ℕ) (l : Look) : Type 0 where
   pub limits : Limits
-      (λ j. All (BearsShrinking nodes j) names × BearBeside p (roles_by role_of) nodes (take place new.edges) old.edges j)
+      (λ j. IsAtMostEach j tops × BearBeside p (roles_by role_of) nodes (take place new.edges) old.edges j)
       (Obstructs p (roles_by role_of) nodes) l
   pub queued : new.queued ≤ place
   pub within : place ≤ length new.edges
@@ -131,15 +131,15 @@ leaves_reordered p nodes old w new leaves same = record {
 }
 
 -- after a scan the edges may stand in another order
-pub scanned_requeued : (p : Problem) (role_of : ℕ → Role) (nodes : List Node) (names : List ℕ) (old w new : Watched) (l : Look)
-    → HasScanned p role_of nodes names old w l → Reorders w new → HasScanned p role_of nodes names old new l
-scanned_requeued p role_of nodes names old w new l scanned same = record {
+pub scanned_requeued : (p : Problem) (role_of : ℕ → Role) (nodes : List Node) (tops : List ℕ) (old w new : Watched) (l : Look)
+    → HasScanned p role_of nodes tops old w l → Reorders w new → HasScanned p role_of nodes tops old new l
+scanned_requeued p role_of nodes tops old w new l scanned same = record {
   limits = scanned.limits;
   watched = leaves_reordered p nodes old w new scanned.watched same;
   bounded = same.bounds (slack_at p (roles_by role_of) nodes) scanned.bounded;
 }
 
-module _ (p : Problem) (role_of : ℕ → Role) (nodes : List Node) (names : List ℕ) (old : Watched)
+module _ (p : Problem) (role_of : ℕ → Role) (nodes : List Node) (tops : List ℕ) (old : Watched)
     (seen : IsSeen p role_of nodes old.edges) where
   abbrev Bears : ℕ → ℕ → Type 0
   Bears k j = BearsStep (roles_by role_of) nodes j (edge_at p.edges k)
@@ -148,13 +148,13 @@ module _ (p : Problem) (role_of : ℕ → Role) (nodes : List Node) (names : Lis
   Blocks = Obstructs p (roles_by role_of) nodes
 
   abbrev Beside : List ℕ → ℕ → Type 0
-  Beside left j = All (BearsShrinking nodes j) names × BearBeside p (roles_by role_of) nodes left old.edges j
+  Beside left j = IsAtMostEach j tops × BearBeside p (roles_by role_of) nodes left old.edges j
 
   -- the minus nodes were looked at, and no edge yet
   pub scanned_none : (n : ℕ) (l : Look) → n ≡ length old.edges → old.queued ≤ length old.edges → AreBounded (slack_at p (roles_by role_of) nodes) old
-      → Limits (λ j. All (BearsShrinking nodes j) names) Blocks l → IsScanned p role_of nodes names old old n l
+      → Limits (λ j. IsAtMostEach j tops) Blocks l → IsScanned p role_of nodes tops old old n l
   scanned_none n l all few bounded limits = record {
-    limits = limits_same (λ j. All (BearsShrinking nodes j) names) (Beside (take n old.edges)) Blocks l
+    limits = limits_same (λ j. IsAtMostEach j tops) (Beside (take n old.edges)) Blocks l
         (λ j h. (
           h,
           λ k within out. absurd (true≢false (sym within ∙ (ap (λ ks. is_in ks k) (sym (take_all n old.edges (omega (arith, all)))) ∙ out))),
@@ -167,7 +167,7 @@ module _ (p : Problem) (role_of : ℕ → Role) (nodes : List Node) (names : Lis
   }
 
   -- the next edge was chosen
-  module _ (w chosen : Watched) (n at k : ℕ) (l : Look) (scanned : IsScanned p role_of nodes names old w n l)
+  module _ (w chosen : Watched) (n at k : ℕ) (l : Look) (scanned : IsScanned p role_of nodes tops old w n l)
       (next : IsNext w chosen n at) (here : k ≡ get_or chosen.edges at 0) where
     still : LeavesInner p nodes old chosen
     still = leaves_reordered p nodes old w chosen scanned.watched next.same
@@ -202,7 +202,7 @@ module _ (p : Problem) (role_of : ℕ → Role) (nodes : List Node) (names : Lis
     -- what is known once the edge has been dealt with, in a watch with the same edges up to it
     dealt : (new : Watched) (m : Look) → new.queued ≡ chosen.queued → at ≤ length new.edges
         → take at new.edges ≡ take at chosen.edges → LeavesInner p nodes old new → AreBounded (slack_at p (roles_by role_of) nodes) new
-        → Limits (Beside (take at chosen.edges)) Blocks m → IsScanned p role_of nodes names old new at m
+        → Limits (Beside (take at chosen.edges)) Blocks m → IsScanned p role_of nodes tops old new at m
     dealt new m queued within same leaves bounded limits = record {
       limits = subst (λ ks. Limits (Beside ks) Blocks m) (sym same) limits;
       queued = omega (arith, queued, next.queued);
@@ -227,7 +227,7 @@ module _ (p : Problem) (role_of : ℕ → Role) (nodes : List Node) (names : Lis
 
     -- its bound suffices
     pub scanned_passed : (bound : ℕ) → bound ≡ get_or chosen.bounds at 0 → fits_within l bound ≡ true
-        → IsScanned p role_of nodes names old chosen at l
+        → IsScanned p role_of nodes tops old chosen at l
     scanned_passed bound is fits =
         dealt chosen l refl (omega (arith, next.within)) refl still bounded_chosen
         (passed bound (omega (arith, is, bounded_chosen at next.within, ap (slack_at p (roles_by role_of) nodes) here)) fits)
@@ -236,9 +236,9 @@ module _ (p : Problem) (role_of : ℕ → Role) (nodes : List Node) (names : Lis
     pub scanned_left : (new : Watched) → AreDistinct chosen.edges → length chosen.bounds ≡ length chosen.edges
         → AreUnderOne nodes (edge_at p.edges k).first (edge_at p.edges k).second
         → new ≡ record chosen { edges = swap_remove chosen.edges at 0; bounds = swap_remove chosen.bounds at 0 }
-        → IsScanned p role_of nodes names old new at l
+        → IsScanned p role_of nodes tops old new at l
     scanned_left new distinct even under is =
-        subst (λ v. IsScanned p role_of nodes names old v at l) (sym is)
+        subst (λ v. IsScanned p role_of nodes tops old v at l) (sym is)
         (dealt (record chosen { edges = swap_remove chosen.edges at 0; bounds = swap_remove chosen.bounds at 0 }) l refl
         (omega (arith, next.within, length-swapped chosen.edges at 0 next.within))
         (taken_before chosen.edges at next.within)
@@ -256,9 +256,9 @@ module _ (p : Problem) (role_of : ℕ → Role) (nodes : List Node) (names : Lis
     -- it is looked at, and its bound is set to at most what it bears
     pub scanned_more : (new : Watched) (y bound : ℕ) (b both : Look) → b ≡ edge_look p role_of nodes k → bound ≤ bound_by b → y ≤ bound
         → new ≡ record chosen { bounds = set chosen.bounds at y } → both ≡ both_looks l b
-        → IsScanned p role_of nodes names old new at both
+        → IsScanned p role_of nodes tops old new at both
     scanned_more new y bound b both looked most low is joined =
-        subst (λ v. IsScanned p role_of nodes names old v at both) (sym is)
+        subst (λ v. IsScanned p role_of nodes tops old v at both) (sym is)
         (dealt (record chosen { bounds = set chosen.bounds at y }) both refl (omega (arith, next.within)) refl
         (record { room = still.room; kept = still.kept; none_new = still.none_new })
         (bounded_set (slack_at p (roles_by role_of) nodes) chosen at y bounded_chosen
@@ -276,16 +276,16 @@ module _ (p : Problem) (role_of : ℕ → Role) (nodes : List Node) (names : Lis
 
   -- Where there is an obstacle, it doesn't matter which edges were looked at.
   pub scanned_blocked : (new : Watched) (n : ℕ) (l : Look) (o : Obstacle) → l ≡ Blocked o
-      → IsScanned p role_of nodes names old new n l → HasScanned p role_of nodes names old new l
+      → IsScanned p role_of nodes tops old new n l → HasScanned p role_of nodes tops old new l
   scanned_blocked new n l o is scanned = record {
     limits = limits_blocked (Beside (take n new.edges))
-        (λ j. All (BearsShrinking nodes j) names × All (λ k. Bears k j) old.edges) Blocks l o is scanned.limits;
+        (λ j. IsAtMostEach j tops × All (λ k. Bears k j) old.edges) Blocks l o is scanned.limits;
     watched = scanned.watched;
     bounded = scanned.bounded;
   }
 
   -- The bounds of all edges that are left suffice.
-  module _ (new : Watched) (n : ℕ) (l : Look) (scanned : IsScanned p role_of nodes names old new n l)
+  module _ (new : Watched) (n : ℕ) (l : Look) (scanned : IsScanned p role_of nodes tops old new n l)
       (fit : (i : ℕ) → i < n → fits_within l (get_or new.bounds i 0) ≡ true) where
     -- an edge that is left has a bound that suffices
     sufficing : (k : ℕ) → is_in (take n new.edges) k ≡ true → (x : ℕ) × (x ≤ slack_at p (roles_by role_of) nodes k) × (fits_within l x ≡ true)
@@ -315,11 +315,11 @@ module _ (p : Problem) (role_of : ℕ → Role) (nodes : List Node) (names : Lis
         by k within true left = bears_left k j within short left
         by k within false out = known.1 k within out
 
-    pub scanned_all : HasScanned p role_of nodes names old new l
+    pub scanned_all : HasScanned p role_of nodes tops old new l
     scanned_all = record { limits = by l refl scanned.limits; watched = scanned.watched; bounded = scanned.bounded }
       where
         by : (m : Look) → l ≡ m → Limits (Beside (take n new.edges)) Blocks m
-            → Limits (λ j. All (BearsShrinking nodes j) names × All (λ k. Bears k j) old.edges) Blocks m
+            → Limits (λ j. IsAtMostEach j tops × All (λ k. Bears k j) old.edges) Blocks m
         by Clear is limits = λ j. ((limits j).0, bear_all j (limits j) (λ m e. absurd (clear_not m (sym is ∙ e))))
         by (Within m) is limits = (
           limits.0,
@@ -331,19 +331,19 @@ module _ (p : Problem) (role_of : ℕ → Role) (nodes : List Node) (names : Lis
         by (Blocked o) is limits = limits
 
 -- an obstacle at a minus node, after a scan of the edges alone
-pub scanned_before : (p : Problem) (role_of : ℕ → Role) (nodes : List Node) (names : List ℕ) (old new : Watched) (l minus both : Look)
-    (o : Obstacle) → minus ≡ Blocked o → LimitsMinus p role_of nodes names minus → HasScanned p role_of nodes [] old new l
-    → both ≡ both_looks l minus → HasScanned p role_of nodes names old new both
-scanned_before p role_of nodes names old new l minus both o is blocks scanned joined = record {
-  limits = subst (LimitsBoth p (roles_by role_of) nodes names old.edges) (sym joined)
-      (subst (λ m. LimitsBoth p (roles_by role_of) nodes names old.edges (both_looks l m)) (sym is)
-      (by l scanned.limits (subst (LimitsMinus p role_of nodes names) is blocks)));
+pub scanned_before : (p : Problem) (role_of : ℕ → Role) (nodes : List Node) (tops beside : List ℕ) (old new : Watched) (l minus both : Look)
+    (o : Obstacle) → minus ≡ Blocked o → LimitsMinus p role_of nodes tops minus → HasScanned p role_of nodes beside old new l
+    → both ≡ both_looks l minus → HasScanned p role_of nodes tops old new both
+scanned_before p role_of nodes tops beside old new l minus both o is blocks scanned joined = record {
+  limits = subst (LimitsBoth p (roles_by role_of) nodes tops old.edges) (sym joined)
+      (subst (λ m. LimitsBoth p (roles_by role_of) nodes tops old.edges (both_looks l m)) (sym is)
+      (by l scanned.limits (subst (LimitsMinus p role_of nodes tops) is blocks)));
   watched = scanned.watched;
   bounded = scanned.bounded;
 }
   where
-    by : (m : Look) → LimitsBoth p (roles_by role_of) nodes [] old.edges m → Obstructs p (roles_by role_of) nodes o
-        → LimitsBoth p (roles_by role_of) nodes names old.edges (both_looks m (Blocked o))
+    by : (m : Look) → LimitsBoth p (roles_by role_of) nodes beside old.edges m → Obstructs p (roles_by role_of) nodes o
+        → LimitsBoth p (roles_by role_of) nodes tops old.edges (both_looks m (Blocked o))
     by Clear limits blocked = blocked
     by (Within b) limits blocked = blocked
     by (Blocked e) limits blocked = limits

@@ -2,22 +2,32 @@
 use Rattle.std.proofs.Common.{ℕ, suc, ◌≡◌, ◌+◌, ◌≤◌, ◌<◌, ◌==◌, ◌||◌, ◌⊎◌, inl, inr, Bool, true, false, cond, nat_lt, List, [], ◌∷◌, length, length-append, map, get_or, take, All, refl, sym, ap, ◌∙◌, subst, arith}
 use Rattle.std.proofs.lemmas.Bool.{false≢true, both_ways, cases_eq, eqb-true, eq-eqb, ltb-true, ltb-false}
 use Rattle.std.proofs.lemmas.List.Folds.{list_any_at}
-use Rattle.std.proofs.lemmas.List.Elements.{All-from_get_or}
+use Rattle.std.proofs.lemmas.List.Elements.{All-from_get_or, All-map}
 use Rattle.fb_graph.specs.Problem.{Problem}
 use Rattle.fb_graph.specs.Certificate.{AreDistinct}
 use Rattle.fb_graph.specs.Dual.{Node, layers_of, layers_at, is_empty, is_live, is_outer, node_at, no_node}
 use Rattle.fb_graph.specs.Steps.{Roles, AllowShrinking}
 use Rattle.fb_graph.specs.Covers.{AreRoles}
 use Rattle.fb_graph.specs.declared.parts.Cut.{Cut}
+use Rattle.fb_graph.proofs.Among.{All_unmapped}
 use Rattle.fb_graph.proofs.Crossings.{one_of_name}
 use Rattle.fb_graph.proofs.Sets.{is_in-All}
 use Rattle.fb_regions.specs.Moves.{node_named}
+use Rattle.fb_obstacles.specs.declared.obstacle.Obstacle.{Obstacle}
 use Rattle.fb_obstacles.specs.declared.obstacle.Obstacle.TheVariants as obstacle
 use Rattle.fb_obstacles.specs.declared.looking.Look.{Look}
 use Rattle.fb_obstacles.specs.declared.looking.Look.TheVariants.{Within, Blocked}
 use Rattle.fb_obstacles.specs.Obstacles.{Obstructs, ListsMinus}
-use Rattle.fb_obstacles.specs.InternalLooks.{empty_layer, node_look, both_looks, Limits, BearsShrinking}
-use Rattle.fb_obstacles.proofs.LookLimits.{limits_more}
+use Rattle.fb_obstacles.specs.InternalLooks.{empty_layer, node_look, both_looks, Limits, BearsShrinking, IsAtMostEach, tops_of}
+use Rattle.fb_obstacles.proofs.LookLimits.{limits_more, limits_same}
+
+-- the lengths that nodes allow are those that their top layers allow
+pub limits_of_tops : (nodes : List Node) (names : List ℕ) (Blocks : Obstacle → Type 0) (l : Look)
+    → Limits (λ j. All (BearsShrinking nodes j) names) Blocks l → Limits (λ j. IsAtMostEach j (tops_of nodes names)) Blocks l
+limits_of_tops nodes names Blocks l =
+    limits_same (λ j. All (BearsShrinking nodes j) names) (λ j. IsAtMostEach j (tops_of nodes names)) Blocks l
+    (λ j. All-map (λ top. j ≤ top) (λ name. (node_named nodes name).top.value) names)
+    (λ j. All_unmapped (λ top. j ≤ top) (λ name. (node_named nodes name).top.value) names)
 
 layers_named : (nodes : List Node) (name : ℕ) → is_live nodes name ≡ true
     → layers_at nodes name ≡ layers_of (node_named nodes name)

@@ -1,5 +1,5 @@
 -- How the edges and minus nodes are looked at.
-use Rattle.std.specs.Prelude.{ℕ, ◌≡◌, ◌+◌, ◌-◌, ◌*◌, ◌/◌, ◌^◌, ◌<◌, ◌≤◌, ◌==◌, Bool, true, false, min, nat_lt, nat_le, List, length, All, Option, Some, None, option_map, if◌then◌else◌}
+use Rattle.std.specs.Prelude.{ℕ, ◌≡◌, ◌+◌, ◌-◌, ◌*◌, ◌/◌, ◌^◌, ◌<◌, ◌≤◌, ◌==◌, Bool, true, false, min, nat_lt, nat_le, List, length, map, All, Option, Some, None, option_map, if◌then◌else◌}
 use Rattle.fb_graph.specs.Parity.{is_in}
 use Rattle.fb_graph.specs.Problem.{Problem, edge_at}
 use Rattle.fb_graph.specs.Limits.{IsWithinLimits}
@@ -135,29 +135,36 @@ Limits Allowed Blocks (Blocked o) = Blocks o
 abbrev pub BearsShrinking : List Node → ℕ → ℕ → Type 0
 BearsShrinking nodes j name = j ≤ (node_named nodes name).top.value
 
--- the look says which lengths these minus nodes and these edges allow, or names an obstacle that is there
+-- how thick the top layers of the nodes of these names are
+abbrev pub tops_of : List Node → List ℕ → List ℕ
+tops_of nodes names = map (λ name. (node_named nodes name).top.value) names
+
+-- the length is at most each of these
+abbrev pub IsAtMostEach : ℕ → List ℕ → Type 0
+IsAtMostEach j tops = All (λ top. j ≤ top) tops
+
+-- the look says which lengths top layers of these thicknesses and these edges allow, or names an obstacle that is there
 abbrev pub LimitsBoth : Problem → Roles → List Node → List ℕ → List ℕ → Look → Type 0
-LimitsBoth p roles nodes names ks look =
+LimitsBoth p roles nodes tops ks look =
     Limits
-    (λ j. All (BearsShrinking nodes j) names × All (λ k. BearsStep roles nodes j (edge_at p.edges k)) ks)
+    (λ j. IsAtMostEach j tops × All (λ k. BearsStep roles nodes j (edge_at p.edges k)) ks)
     (Obstructs p roles nodes) look
 
--- what a scan of the watched edges and the minus nodes tells, and what it leaves of the watch
-pub record HasScanned (p : Problem) (role_of : ℕ → Role) (nodes : List Node) (names : List ℕ) (old new : Watched) (look : Look)
+-- what a scan of the watched edges tells, with top layers of these thicknesses beside them, and what it leaves of the watch
+pub record HasScanned (p : Problem) (role_of : ℕ → Role) (nodes : List Node) (tops : List ℕ) (old new : Watched) (look : Look)
     : Type 0 where
-  pub limits : LimitsBoth p (roles_by role_of) nodes names old.edges look
+  pub limits : LimitsBoth p (roles_by role_of) nodes tops old.edges look
   pub watched : LeavesInner p nodes old new
   pub bounded : AreBounded (slack_at p (roles_by role_of) nodes) new
 
--- the look says which lengths minus nodes of these names allow, or names an obstacle that is there
+-- the look says which lengths top layers of these thicknesses allow, or names an obstacle that is there
 abbrev pub LimitsMinus : Problem → (ℕ → Role) → List Node → List ℕ → Look → Type 0
-LimitsMinus p role_of nodes names look =
-    Limits (λ j. All (BearsShrinking nodes j) names) (Obstructs p (roles_by role_of) nodes) look
+LimitsMinus p role_of nodes tops look = Limits (λ j. IsAtMostEach j tops) (Obstructs p (roles_by role_of) nodes) look
 
--- what a scan of the watched edges tells after a look at minus nodes, whichever these are
+-- what a scan of the watched edges tells after a look at top layers, however thick these are
 abbrev pub HasScannedAfter : Problem → (ℕ → Role) → List Node → Look → Watched → Watched → Look → Type 0
 HasScannedAfter p role_of nodes before old new look =
-    (names : List ℕ) → LimitsMinus p role_of nodes names before → HasScanned p role_of nodes names old new look
+    (tops : List ℕ) → LimitsMinus p role_of nodes tops before → HasScanned p role_of nodes tops old new look
 
 -- the edges in a list bear steps of this length, but for those in another list
 abbrev pub BearBeside : Problem → Roles → List Node → (left ks : List ℕ) → ℕ → Type 0

@@ -2,7 +2,7 @@ ghost use Rattle.std.specs.Prelude.{ℕ, ◌≡◌, ◌+◌, ◌<◌, ◌≤◌,
 ghost use Rattle.fb_graph.specs.Covers.{AreRoles};
 ghost use Rattle.fb_obstacles.specs.Obstacles.{HavePlusParity, ListsMinus, slack_at, roles_by};
 ghost use Rattle.fb_obstacles.specs.Watched.{AreBounded};
-ghost use Rattle.fb_obstacles.specs.InternalLooks.{HasScanned, HasScannedAfter, IsSeen, LimitsMinus, both_looks, fits_within};
+ghost use Rattle.fb_obstacles.specs.InternalLooks.{HasScanned, HasScannedAfter, IsSeen, LimitsMinus, both_looks, fits_within, tops_of};
 ghost use Rattle.fb_obstacles.specs.InternalWatch.{IsNext};
 
 use crate::ends::keeps_dual;
@@ -76,7 +76,7 @@ pub fn look_by_bounds<S: Scope, R: MinusNodes, L: Ledger>(
     requires parity { HavePlusParity (roles_by (R.role_of roles.now)) regions.now.nodes }
     requires within { All (λ k. k < length (S.problem scope.now).edges) watch.old.edges }
     requires bounded { AreBounded (slack_at (S.problem scope.now) (roles_by (R.role_of roles.now)) regions.now.nodes) watch.old }
-    ensures scanned { HasScanned (S.problem scope.now) (R.role_of roles.now) regions.now.nodes (R.minus_names roles.now) watch.old watch.new result }
+    ensures scanned { HasScanned (S.problem scope.now) (R.role_of roles.now) regions.now.nodes (tops_of regions.now.nodes (R.minus_names roles.now)) watch.old watch.new result }
     ensures looks { (looks.old ≤ looks.new) × (looks.new ≤ looks.old + length watch.old.edges) }
 {
     keeps_seen(watch, scope, regions, roles);
@@ -99,7 +99,7 @@ fn keeps_seen<S: Scope, R: MinusNodes>(watch: &Watch, scope: &S, regions: &Regio
 
 /// The look, whose edges are not put into the queue again. If a minus node is an obstacle, a tight edge comes before it, since
 /// an edge may end the search, and a blossom that is opened, or a layer that is taken off, for a node that soon grows again is
-/// work for nothing.
+/// work for nothing. Then only edges whose bounds don't show that they bear a step of length 1 are looked at.
 fn scan_by_bounds<S: Scope, R: MinusNodes, L: Ledger>(
     watch: &mut Watch,
     scope: &S,
@@ -111,14 +111,14 @@ fn scan_by_bounds<S: Scope, R: MinusNodes, L: Ledger>(
     requires minus { ListsMinus (roles_by (R.role_of roles.now)) regions.now.nodes (R.minus_names roles.now) }
     requires seen { IsSeen (S.problem scope.now) (R.role_of roles.now) regions.now.nodes watch.old.edges }
     requires bounded { AreBounded (slack_at (S.problem scope.now) (roles_by (R.role_of roles.now)) regions.now.nodes) watch.old }
-    ensures scanned { HasScanned (S.problem scope.now) (R.role_of roles.now) regions.now.nodes (R.minus_names roles.now) watch.old watch.new result.look }
+    ensures scanned { HasScanned (S.problem scope.now) (R.role_of roles.now) regions.now.nodes (tops_of regions.now.nodes (R.minus_names roles.now)) watch.old watch.new result.look }
     ensures looks { (looks.old ≤ looks.new) × (looks.new ≤ looks.old + length watch.old.edges) }
 {
     let minus = look_at_minus(regions, roles);
     let Look::Blocked(_) = minus else {
         return scan_edges(watch, scope, regions, roles, minus, looks);
     };
-    let Scan { look, place } = scan_edges(watch, scope, regions, roles, Look::Clear, looks);
+    let Scan { look, place } = scan_edges(watch, scope, regions, roles, Look::Within(1), looks);
     Scan {
         look: look.and(minus),
         place,
@@ -138,7 +138,7 @@ fn scan_edges<S: Scope, R: Roles, L: Ledger>(
     requires same { regions.now.scope ≡ scope.now }
     requires seen { IsSeen (S.problem scope.now) (R.role_of roles.now) regions.now.nodes watch.old.edges }
     requires bounded { AreBounded (slack_at (S.problem scope.now) (roles_by (R.role_of roles.now)) regions.now.nodes) watch.old }
-    requires minus { (names : List ℕ) × LimitsMinus (S.problem scope.now) (R.role_of roles.now) regions.now.nodes names minus }
+    requires minus { (tops : List ℕ) × LimitsMinus (S.problem scope.now) (R.role_of roles.now) regions.now.nodes tops minus }
     ensures scanned { HasScannedAfter (S.problem scope.now) (R.role_of roles.now) regions.now.nodes minus watch.old watch.new result.look }
     ensures looks { (looks.old ≤ looks.new) × (looks.new ≤ looks.old + length watch.old.edges) }
 {
