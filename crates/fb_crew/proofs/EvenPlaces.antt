@@ -38,7 +38,7 @@ module _ (g : DecodingGraph) where
   rows_right (None ∷ vs) (s ∷ ss) (r ∷ rs) each rows = (rows.0, rows_right vs ss rs each.1 rows.1)
 
   best_row : (shot : ShotValue) (r : Row) → IsFirstOdd (problem_of g shot) None → IsShotRow g shot r → is_best r ≡ true
-  best_row shot (Best edges weight cuts) none right = refl
+  best_row shot (Best edges base weight cuts) none right = refl
   best_row shot (Odd v) none right = absurd ((same_first_odd g shot None).0 none v right.0)
 
   chosen : (b : Bool) (xs ys : List ℕ) → b ≡ true → (if b then xs else ys) ≡ xs

@@ -3,7 +3,6 @@ use Rattle.std.specs.Prelude.{ℕ, ◌≡◌, ◌+◌, ◌*◌, ◌≤◌, Bool,
 use Rattle.std.specs.List.{All, AllZip}
 use Rattle.fb_graph.specs.Answers.{IsRight}
 use Rattle.fb_graph.specs.Limits.{DecodingGraph, ShotValue}
-use Rattle.fb_graph.specs.ShotGraphs.{shot_problem}
 use Rattle.fb_graph.specs.Parity.{is_in}
 use Rattle.fb_graph.specs.declared.parts.Row.{Row}
 use Rattle.fb_graph.specs.declared.parts.Row.TheVariants.{Best, Odd}
@@ -15,14 +14,14 @@ use Rattle.fb_slots.specs.Ordered.{IsByItem}
 
 -- the row of a shot
 abbrev pub IsShotRow : DecodingGraph → ShotValue → Row → Type 0
-IsShotRow g shot row = IsRight (shot_problem g shot) row
+IsShotRow g shot row = IsRight g shot row
 
 -- the rows of shots
 abbrev pub AreRows : DecodingGraph → List ShotValue → List Row → Type 0
 AreRows g shots rows = AllZip (IsShotRow g) shots rows
 
 abbrev pub is_best : Row → Bool
-is_best (Best edges weight cuts) = true
+is_best (Best edges base weight cuts) = true
 is_best (Odd v) = false
 
 -- the places of the corrections among rows, of which the first has this place

@@ -144,9 +144,9 @@ impl<'a> Piece for Solved<'a> {
 /// have.
 const MOST_SPARES: usize = 16;
 
-/// The most defects of a root whose room is kept. To empty a larger one would cost as much as it once held, for a small shot
+/// The most nodes of a root whose room is kept. To empty a larger one would cost as much as it once held, for a small shot
 /// too.
-const MOST_KEPT_DEFECTS: u32 = 1_024;
+const MOST_KEPT_NODES: usize = 1_024;
 
 /// What a worker has done with its tools: units solved, fusions made, and the searches of both that have matched their
 /// roots. A count stays at its greatest number.
@@ -214,11 +214,11 @@ impl Tools {
         }
     }
 
-    /// Keeps the room of a solved root, unless its shot has many defects.
+    /// Keeps the room of a solved root, unless that has many nodes.
     fn keep_root(&mut self, half: Half<'_>)
         ensures { self.new ≡ self.old }
     {
-        if has_few_defects(&half) {
+        if has_few_nodes(&half) {
             self.keep(half.into_spare());
         } else {
             drop(half);
@@ -362,10 +362,7 @@ fn fusion_by<'a, L: Ledger>(
     Ok(half)
 }
 
-/// Whether the shot of a part has at most `MOST_KEPT_DEFECTS` defects.
-fn has_few_defects(half: &Half<'_>) -> bool {
-    match half.job().shots().get(half.slot() as usize) {
-        Some(shot) => shot.len() <= MOST_KEPT_DEFECTS,
-        None => false,
-    }
+/// Whether a part has at most `MOST_KEPT_NODES` nodes.
+fn has_few_nodes(half: &Half<'_>) -> bool {
+    half.regions().len() <= MOST_KEPT_NODES
 }

@@ -76,6 +76,13 @@ impl<'a> Crew<'a> {
         })
     }
 
+    /// The graph whose shots it solves.
+    pub fn graph(&self) -> &'a Graph
+        ensures { result.now ≡ self.now.graph }
+    {
+        self.graph
+    }
+
     /// The rows of shots, and how they were made. With one worker everything is done on the calling thread.
     pub fn decode_window<G: Gate, R: Threads + Sync>(
         &mut self,

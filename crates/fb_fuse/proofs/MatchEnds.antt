@@ -5,7 +5,7 @@ use Rattle.std.proofs.lemmas.List.{get_or-map, length-map}
 use Rattle.fb_graph.specs.Parity.{is_in}
 use Rattle.fb_graph.specs.Limits.{DecodingGraph, IsGraph, no_shot}
 use Rattle.fb_graph.proofs.Members.{is_in-append}
-use Rattle.fb_graph.proofs.ShotGraphs.{shot_graph_is_graph}
+use Rattle.fb_graph.proofs.ShiftedShots.{shot_graph_is_graph}
 use Rattle.fb_graph.proofs.Sets.{is_in_at}
 use Rattle.fb_plan.specs.Plans.{PlanTree}
 use Rattle.fb_links.specs.declared.walk.Step.{Step}

@@ -15,7 +15,7 @@ use std::sync::ledger::Ledger;
 
 /// The solved part of a fusion, made of its children's: both are put together (`Work::merge`), and a search goes from each
 /// node that is unmatched then, in rising order of their first vertices. Counts a step for each search: at most one for
-/// each node that was matched to the seam and for each defect on it, and at least one for every two of these.
+/// each node that was matched to the seam and for each shifted defect on it, and at least one for every two of these.
 pub fn fuse<'a, L: Ledger>(
     alloc: Global,
     job: &'a Job<'a>,

@@ -5,23 +5,28 @@ use Rattle.std.proofs.lemmas.Bool.{ltb-true}
 use Rattle.std.proofs.lemmas.List.{append-nil, get_or_default}
 use Rattle.std.proofs.lemmas.List.Elements.{All-nil, All-cons, All-head, All-tail}
 use Rattle.std.specs.List.{filter}
+use Rattle.std.specs.List.Sorted.{IsStrictlyIncreasing}
 use Rattle.fb_graph.specs.Parity.{is_in}
 use Rattle.fb_graph.specs.Certificate.{AreDistinct}
 use Rattle.fb_graph.specs.Limits.{DecodingGraph, IsShot, ShotValue, no_shot}
 use Rattle.fb_graph.specs.Dual.{Node, defects_of, is_empty, is_live, is_outer, leaf}
+use Rattle.fb_graph.specs.Signs.{shifted_defects}
 use Rattle.fb_graph.specs.Singles.{nodes_of, vertices_of}
 use Rattle.fb_graph.proofs.Sets.{distinct-filter, distinct_from_rising, is_in-filter, All-from_is_in}
-use Rattle.fb_plan.specs.Plans.{JobValue, node_count, problem_at}
+use Rattle.fb_plan.specs.Plans.{JobValue, PlanTree, node_count, problem_at}
+use Rattle.fb_plan.specs.Scopes.{scope_problem}
+use Rattle.fb_plan.specs.declared.scope.NodeScope.{NodeScope}
 use Rattle.fb_plan.specs.Laws.{IsJob}
 use Rattle.fb_links.specs.declared.walk.Step.{Step}
 use Rattle.fb_blossoms.specs.Nodes as blossoms
 use Rattle.fb_laws.specs.PartStates.{IsPartState}
 use Rattle.fb_laws.specs.StateMoves.{PartBegins, begun_state}
-use Rattle.fb_half.specs.Beginnings.{IsBegun, leaves_by, own_defects}
+use Rattle.fb_half.specs.Beginnings.{IsBegun, leaves_by, own_defects, shot_defects}
 use Rattle.fb_half.specs.InternalBeginnings.{IsStarted, empty_part}
 use Rattle.fb_half.specs.Matchings.{IsMatchOf, MatchingValue, listed_names, match_links, matched_names}
-use Rattle.fb_half.specs.Parts.{AreLinksOf, IsPart, PartValue, kept_links, problem_in, shot_of, state_of}
+use Rattle.fb_half.specs.Parts.{AreLinksOf, IsPart, PartValue, kept_links, problem_in, shot_of, solved_shot, state_of}
 use Rattle.fb_half.specs.Translations.{children_at, cycles_by, link_by, ring_at, ring_links}
+use Rattle.fb_half.proofs.ShiftedLists.{shifted_rises}
 use Rattle.fb_half.proofs.Begun.{held_in, leaf_cycle, leaf_live, live_leaves, outer_leaves, single_names, single_nodes, single_values, single_vertices, singles_by}
 
 pub same_function : {X Y : Type 0} (f g : X → Y) → ((x : X) → f x ≡ g x) → f ≡ g
@@ -110,22 +115,22 @@ begun_part w begins job slot node s none = record {
         append-nil (listed_names w.matching)
         ∙ (ap (λ l. w.matching.unmatched ++ matched_names l) s.matches ∙ append-nil w.matching.unmatched)
 
-    shot : IsShot w.job.graph (shot_of w)
-    shot = job.shots w.slot no_shot slot
+    rises : IsStrictlyIncreasing (solved_shot w).defects
+    rises = shifted_rises w.job.graph (shot_of w)
 
     defects_are : (v : ℕ) → (problem_in w).is_real v ≡ true
         → (problem_in w).is_defect v ≡ is_in (vertices_of (singles_by w.matching.unmatched (own_defects w))) v
     defects_are v real =
         sym (ap (λ l. is_in l v) (single_vertices w.matching.unmatched (own_defects w) s.count)
-        ∙ (is_in-filter (problem_in w).is_real (shot_of w).defects v ∙ (ap (λ b. is_in (shot_of w).defects v && b) real ∙ and-true (is_in (shot_of w).defects v))))
+        ∙ (is_in-filter (problem_in w).is_real (solved_shot w).defects v ∙ (ap (λ b. is_in (solved_shot w).defects v && b) real ∙ and-true (is_in (solved_shot w).defects v))))
 
     state_begun : IsPartState (problem_in w) (begun_state (singles_by w.matching.unmatched (own_defects w)))
     state_begun =
         begins (problem_in w) (singles_by w.matching.unmatched (own_defects w))
         (subst AreDistinct (sym (single_names w.matching.unmatched (own_defects w) s.count)) s.names)
         (subst AreDistinct (sym (single_vertices w.matching.unmatched (own_defects w) s.count))
-        (distinct-filter (problem_in w).is_real (shot_of w).defects (distinct_from_rising (shot_of w).defects shot.rising)))
-        (single_real (λ v. (problem_in w).is_real v ≡ true) w.matching.unmatched (own_defects w) (kept_real (problem_in w).is_real (shot_of w).defects))
+        (distinct-filter (problem_in w).is_real (solved_shot w).defects (distinct_from_rising (solved_shot w).defects rises)))
+        (single_real (λ v. (problem_in w).is_real v ≡ true) w.matching.unmatched (own_defects w) (kept_real (problem_in w).is_real (solved_shot w).defects))
         (single_values w.matching.unmatched (own_defects w)) defects_are
 
     state : IsPartState (problem_in w) (state_of w)
@@ -158,25 +163,33 @@ shot_below g shot is =
     ltb-true (get_or shot.defects i d) g.vertices
     (first_true (nat_lt (get_or shot.defects i d) g.vertices) (not (is_in g.virtuals (get_or shot.defects i d))) (is.real i d less))
 
--- the defects of the shot that are real at the node
+-- the defects of the shot that are real at the node, and the shifted ones
+abbrev pub given_of : JobValue → ℕ → ℕ → List ℕ
+given_of j s n = filter (problem_at j.graph j.plan n no_shot).is_real (get_or j.shots s no_shot).defects
+
 abbrev pub own_of : JobValue → ℕ → ℕ → List ℕ
-own_of j s n = filter (problem_at j.graph j.plan n no_shot).is_real (get_or j.shots s no_shot).defects
+own_of j s n = filter (problem_at j.graph j.plan n no_shot).is_real (shifted_defects j.graph (get_or j.shots s no_shot))
 
 pub shot_at : (j : JobValue) (s : ℕ) → IsJob j → s < length j.shots → IsShot j.graph (get_or j.shots s no_shot)
 shot_at j s job less = job.shots s no_shot less
 
-pub own_distinct : (j : JobValue) (s n : ℕ) → IsJob j → s < length j.shots → AreDistinct (own_of j s n)
-own_distinct j s n job less =
-    distinct-filter (problem_at j.graph j.plan n no_shot).is_real (get_or j.shots s no_shot).defects
-    (distinct_from_rising (get_or j.shots s no_shot).defects (shot_at j s job less).rising)
+pub own_distinct : (j : JobValue) (s n : ℕ) → AreDistinct (own_of j s n)
+own_distinct j s n =
+    distinct-filter (problem_at j.graph j.plan n no_shot).is_real (shifted_defects j.graph (get_or j.shots s no_shot))
+    (distinct_from_rising (shifted_defects j.graph (get_or j.shots s no_shot)) (shifted_rises j.graph (get_or j.shots s no_shot)))
 
 pub own_real : (j : JobValue) (s n : ℕ) → All (λ v. (problem_at j.graph j.plan n no_shot).is_real v ≡ true) (own_of j s n)
-own_real j s n = kept_real (problem_at j.graph j.plan n no_shot).is_real (get_or j.shots s no_shot).defects
+own_real j s n = kept_real (problem_at j.graph j.plan n no_shot).is_real (shifted_defects j.graph (get_or j.shots s no_shot))
 
 pub own_in : (w : PartValue) (j : JobValue) (s n : ℕ) (own : List ℕ) → w.job ≡ j → w.slot ≡ s → w.node ≡ n → own ≡ own_of j s n → own ≡ own_defects w
 own_in w j s n own job slot node is =
     is
     ∙ sym (ap (λ x. own_of x w.slot w.node) job ∙ (ap (λ x. own_of j x w.node) slot ∙ ap (λ x. own_of j s x) node))
+
+pub given_in : (w : PartValue) (j : JobValue) (s n : ℕ) (own : List ℕ) → w.job ≡ j → w.slot ≡ s → w.node ≡ n → own ≡ given_of j s n → own ≡ shot_defects w
+given_in w j s n own job slot node is =
+    is
+    ∙ sym (ap (λ x. given_of x w.slot w.node) job ∙ (ap (λ x. given_of j x w.node) slot ∙ ap (λ x. given_of j s x) node))
 
 pub empty_is : (j : JobValue) (s n : ℕ) (nodes : List Node) (links : List (Option (List Step))) (store : List (Option blossoms.Node)) (m : MatchingValue)
     → nodes ≡ [] → links ≡ [] → store ≡ [] → m ≡ record { matches = []; unmatched = [] }
@@ -203,7 +216,12 @@ begun_is w j s n own job slot node is started =
       matches = started.matches;
     }
 
-pub shot_read : (j : JobValue) (s : ℕ) (shots : List ShotValue) (read : ShotValue) (l : List ℕ) → shots ≡ j.shots → s < length j.shots
-    → read ≡ get_or shots s read → l ≡ read.defects → l ≡ (get_or j.shots s no_shot).defects
-shot_read j s shots read l same less is same_list =
-    same_list ∙ ap (λ x. x.defects) (is ∙ (ap (λ x. get_or x s read) same ∙ get_or_default j.shots s read no_shot less))
+-- a scope's real vertices are those of its graph and its node of the plan
+pub scope_real : (scope : NodeScope) (g : DecodingGraph) (t : PlanTree) (n : ℕ) → scope.graph.now ≡ g → scope.plan.now ≡ t → scope.node ≡ n
+    → (scope_problem scope).is_real ≡ (problem_at g t n no_shot).is_real
+scope_real scope g t n graph plan node = λ i. (problem_at (graph i) (plan i) (node i) no_shot).is_real
+
+-- the shot that is read is that of the slot
+pub shot_read : (j : JobValue) (s : ℕ) (shots : List ShotValue) (read : ShotValue) → shots ≡ j.shots → s < length j.shots
+    → read ≡ get_or shots s read → read ≡ get_or j.shots s no_shot
+shot_read j s shots read same less is = is ∙ (ap (λ x. get_or x s read) same ∙ get_or_default j.shots s read no_shot less)

@@ -2,7 +2,7 @@
 -- 2023).
 use Rattle.std.proofs.Common.{ℕ, ◌≡◌, ◌&&◌, ◌⊎◌, Bool, true, false, if◌then◌else◌, List, [], ◌++◌, map, get_or, Some, refl, sym, ap, ◌∙◌, subst}
 use Rattle.std.proofs.Math.Bool.{and-true}
-use Rattle.std.specs.List.Sorted.{IsPermutation}
+use Rattle.std.specs.List.Sorted.{IsPermutation, IsStrictlyIncreasing}
 use Rattle.std.proofs.lemmas.Bool.{or_left, or_right}
 use Rattle.std.proofs.lemmas.List.{map-append}
 use Rattle.fb_graph.specs.Parity.{is_in}
@@ -28,7 +28,7 @@ use Rattle.fb_blossoms.specs.Merged as merged
 use Rattle.fb_half.specs.InternalSeams.{IsBeside, IsOpened, AddsSingles, freed_matching}
 use Rattle.fb_half.specs.Matchings.{match_links}
 use Rattle.fb_half.specs.Merged.{is_owned_by, seam_defects}
-use Rattle.fb_half.specs.Parts.{IsPart, PartValue, graph_in, shot_of, state_of}
+use Rattle.fb_half.specs.Parts.{IsPart, PartValue, graph_in, shot_of, solved_shot, state_of}
 use Rattle.fb_half.specs.Translations.{cycles_by, link_by, ring_at, ring_links}
 use Rattle.fb_half.proofs.Begun.{live_leaves, single_names, single_nodes, single_values, single_vertices, singles_by}
 use Rattle.fb_half.proofs.BegunParts.{kept_real, same_function, single_real}
@@ -37,6 +37,7 @@ use Rattle.fb_half.proofs.BesideNodes.{ring_left, ring_right}
 use Rattle.fb_half.proofs.FreedMatches.{firsts}
 use Rattle.fb_half.proofs.MergedHalves.{before, links_are, middle, middle_part, name, link, names_apart, names_own, node_below, p, parts, q, real_covered, same_part, seam_real, seam_unreal, whole, whole_limits}
 use Rattle.fb_half.proofs.SeamedLinks.{agreed_seamed, cycles_stay, in_rings, links_seamed, not_own}
+use Rattle.fb_half.proofs.ShiftedLists.{shifted_rises}
 use Rattle.fb_half.proofs.SeamedMatchings.{freed_are, freed_list, freed_names_are, links_split, matching_seamed, rest, rest_elsewhere, taken}
 use Rattle.fb_half.proofs.AddedSingles.{Store}
 use Rattle.fb_links.proofs.MovedLinks.{Table}
@@ -125,8 +126,8 @@ module _ (left right : PartValue) (n : ℕ) (limits : IsWithinLimits (problem_at
             ∙ sym (cycles_stay own w after beside_is opened x ∙ cycles_left x live)
         by false dead = ap (λ c. if c then cycles_by left.links left.store x else cycles_by after.links after.store x) dead
 
-    shot : IsShot left.job.graph (shot_of left)
-    shot = one.job.shots left.slot no_shot one.slot
+    rises : IsStrictlyIncreasing (solved_shot left).defects
+    rises = shifted_rises left.job.graph (shot_of left)
 
     vertices_are : vertices_of singles ≡ defects
     vertices_are = single_vertices own defects singles_added.count
@@ -142,11 +143,11 @@ module _ (left right : PartValue) (n : ℕ) (limits : IsWithinLimits (problem_at
       unreal = seam_unreal left right n limits children one two matched also;
       freed_are = freed_are own w after beside_is opened;
       elsewhere = rest_elsewhere own w after beside_is opened;
-      at_seam = single_real (λ v. owned v ≡ true) own defects (kept_real owned (shot_of left).defects);
+      at_seam = single_real (λ v. owned v ≡ true) own defects (kept_real owned (solved_shot left).defects);
       bare = single_values own defects;
       defects = λ v seam.
           sym (ap (λ l. is_in l v) vertices_are
-          ∙ (is_in-filter owned (shot_of left).defects v ∙ (ap (λ c. is_in (shot_of left).defects v && c) seam ∙ and-true (is_in (shot_of left).defects v))));
+          ∙ (is_in-filter owned (solved_shot left).defects v ∙ (ap (λ c. is_in (solved_shot left).defects v && c) seam ∙ and-true (is_in (solved_shot left).defects v))));
     }
 
     further : AreFurther fused w.nodes singles
@@ -155,9 +156,9 @@ module _ (left right : PartValue) (n : ℕ) (limits : IsWithinLimits (problem_at
       own = λ x live.
           ap (λ l. is_live l x) (single_nodes own defects)
           ∙ (live_leaves own defects x singles_added.count ∙ not_own own w after beside_is opened x live);
-      vertices = subst AreDistinct (sym vertices_are) (distinct-filter owned (shot_of left).defects (distinct_from_rising (shot_of left).defects shot.rising));
+      vertices = subst AreDistinct (sym vertices_are) (distinct-filter owned (solved_shot left).defects (distinct_from_rising (solved_shot left).defects rises));
       real = single_real (λ v. fused.is_real v ≡ true) own defects
-          (λ i d less. seam_real left right n limits children one two matched also (get_or defects i d) (kept_real owned (shot_of left).defects i d less));
+          (λ i d less. seam_real left right n limits children one two matched also (get_or defects i d) (kept_real owned (solved_shot left).defects i d less));
     }
 
     matches_are : map (link_by table) (match_links w.matching.matches) ≡ first_state.matches ++ second_state.matches

@@ -21,7 +21,7 @@ use Rattle.fb_half.specs.declared.matches.Match.{Match}
 use Rattle.fb_half.specs.InternalSeams.{IsBeside, IsOpened, ends_at_seam, meets_seam, met_matches, met_nodes}
 use Rattle.fb_half.specs.Matchings.{IsMatchOf, match_links}
 use Rattle.fb_half.specs.Merged.{IsMerged, freed_in, is_alone, is_freed, is_owned_by, other_matches, renamed_match, renamed_second, seam_matches, staying_links}
-use Rattle.fb_half.specs.Parts.{IsPart, PartValue, graph_in, kept_links, problem_in, shot_of}
+use Rattle.fb_half.specs.Parts.{IsPart, PartValue, graph_in, kept_links, problem_in, solved_shot}
 use Rattle.fb_half.specs.Seams.{far_end}
 use Rattle.fb_half.specs.Translations.{link_by, ring_links}
 use Rattle.fb_half.proofs.BesideLinks.{link_left, link_right, links_renamed, moved, stays}
@@ -132,10 +132,10 @@ module _ (left right : PartValue) (n : ℕ) (limits : IsWithinLimits (problem_at
   abbrev pub owned : ℕ → Bool
   owned = is_owned_by left.job.plan n
 
-  off_seam : (u : ℕ) → ((problem_in left).is_real u || (problem_at (graph_in left) left.job.plan right.node (shot_of left)).is_real u) ≡ true → owned u ≡ false
+  off_seam : (u : ℕ) → ((problem_in left).is_real u || (problem_at (graph_in left) left.job.plan right.node (solved_shot left)).is_real u) ≡ true → owned u ≡ false
   off_seam u h =
       false_from_ne_true (owned u)
-      (λ on. both_ways ((problem_in left).is_real u || (problem_at (graph_in left) left.job.plan right.node (shot_of left)).is_real u)
+      (λ on. both_ways ((problem_in left).is_real u || (problem_at (graph_in left) left.job.plan right.node (solved_shot left)).is_real u)
       (seam_unreal left right n limits children one two matched also u on) h)
 
   leads_left : (e : Match) → IsAmong e left.matching.matches → leads e ≡ is_freed left n e
@@ -145,12 +145,12 @@ module _ (left right : PartValue) (n : ℕ) (limits : IsWithinLimits (problem_at
       (live_left left right n limits children one two matched also links names table store tables stores e a))
       ∙ seam_far (problem_in left) left.nodes owned (link_by left.links e.link) e.first e.second
       (λ u m c. one.state.work.nest.dual.real u (ap is_some c))
-      (λ u h. off_seam u (or_left ((problem_in left).is_real u) ((problem_at (graph_in left) left.job.plan right.node (shot_of left)).is_real u) h))
+      (λ u h. off_seam u (or_left ((problem_in left).is_real u) ((problem_at (graph_in left) left.job.plan right.node (solved_shot left)).is_real u) h))
       (All_among (λ x. IsMatchOf (problem_in left) left.nodes (link_by left.links x.link) x.first x.second) left.matching.matches one.matching.connects e a)
 
   leads_right : (e : Match) → IsAmong e right.matching.matches → leads (renamed_match new_link new_name e) ≡ is_freed right n e
   leads_right e a =
-      let q : Problem = problem_at (graph_in left) left.job.plan right.node (shot_of left) in
+      let q : Problem = problem_at (graph_in left) left.job.plan right.node (solved_shot left) in
       ap (λ c. c && ends_at_seam left.job.plan n (link_by table (new_link e.link))) (alone_renamed new_name e.second)
       ∙ (ap (λ l. is_alone e.second && ends_at_seam left.job.plan n l)
       (link_right left.links right.links table links tables e.link

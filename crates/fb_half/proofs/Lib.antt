@@ -26,6 +26,7 @@ pub mod SeamPlaces
 pub mod SeamedLinks
 pub mod SeamedMatchings
 pub mod AddedSingles
+pub mod ShiftedLists
 pub mod SlotScopes
 pub mod Tables
 pub mod Taken

@@ -22,7 +22,7 @@ use Rattle.fb_half.specs.declared.seams.Seams.{Seams}
 use Rattle.fb_half.specs.InternalSeams.{AreBesideListed, IsBeside, IsOpened, meets_seam}
 use Rattle.fb_half.specs.Matchings.{IsMatchOf, match_links}
 use Rattle.fb_half.specs.Merged.{is_alone, is_owned_by, renamed_match, renamed_second}
-use Rattle.fb_half.specs.Beginnings.{own_defects}
+use Rattle.fb_half.specs.Beginnings.{shot_defects}
 use Rattle.fb_half.specs.Parts.{IsPart, PartValue, graph_in, problem_in}
 use Rattle.fb_half.specs.Seams.{AreListed, IsListed, far_end, names_under}
 use Rattle.fb_half.specs.Translations.{link_by}
@@ -39,7 +39,7 @@ use Rattle.fb_links.proofs.MovedLinks.{Table}
 
 -- a part without matches
 pub scope_begun : (parts : Parts) → IsScopeOf parts.regions.scope (part_of parts) → parts.matching.matches ≡ []
-    → parts.defects.items ≡ own_defects (part_of parts) → HasScope parts
+    → parts.defects.items ≡ shot_defects (part_of parts) → HasScope parts
 scope_begun parts is none own = record {
   graph = is.graph;
   plan = is.plan;

@@ -34,7 +34,7 @@ use Rattle.fb_half.specs.declared.matches.Match.{Match}
 use Rattle.fb_half.specs.InternalSeams.{IsBeside}
 use Rattle.fb_half.specs.Matchings.{MatchingValue, listed_names, match_links, matched_names}
 use Rattle.fb_half.specs.Merged.{is_owned_by, renamed_match}
-use Rattle.fb_half.specs.Parts.{IsPart, PartValue, graph_in, kept_links, problem_in, shot_of}
+use Rattle.fb_half.specs.Parts.{IsPart, PartValue, graph_in, kept_links, problem_in, shot_of, solved_shot}
 use Rattle.fb_half.specs.Translations.{link_by, ring_links}
 use Rattle.fb_half.proofs.BesideLinks.{link_left, link_right, links_beside, links_renamed, rings_renamed, rings_same}
 use Rattle.fb_half.proofs.BesideMatchings.{listed_beside, matching_beside, names_renamed}
@@ -98,10 +98,10 @@ module _ (left right : PartValue) (n : ℕ) (limits : IsWithinLimits (problem_at
   p = problem_in left
 
   abbrev pub q : Problem
-  q = problem_at (graph_in left) left.job.plan right.node (shot_of left)
+  q = problem_at (graph_in left) left.job.plan right.node (solved_shot left)
 
   abbrev pub whole : Problem
-  whole = problem_at (graph_in left) left.job.plan n (shot_of left)
+  whole = problem_at (graph_in left) left.job.plan n (solved_shot left)
 
   abbrev pub middle : Problem
   middle = without_seam p q whole
@@ -116,9 +116,9 @@ module _ (left right : PartValue) (n : ℕ) (limits : IsWithinLimits (problem_at
 
   pub parts : AreParts p q whole
   parts = record {
-    left_part = (child_is_part (graph_in left) left.job.plan n left.node right.node (shot_of left) plan children).0;
-    right_part = (child_is_part (graph_in left) left.job.plan n left.node right.node (shot_of left) plan children).1;
-    separated = children_are_separated (graph_in left) left.job.plan n left.node right.node (shot_of left) plan children;
+    left_part = (child_is_part (graph_in left) left.job.plan n left.node right.node (solved_shot left) plan children).0;
+    right_part = (child_is_part (graph_in left) left.job.plan n left.node right.node (solved_shot left) plan children).1;
+    separated = children_are_separated (graph_in left) left.job.plan n left.node right.node (solved_shot left) plan children;
   }
 
   pub parts_middle : AreParts p q middle
@@ -152,12 +152,12 @@ module _ (left right : PartValue) (n : ℕ) (limits : IsWithinLimits (problem_at
   -- the seam is real in neither child, and in the whole
   pub seam_unreal : (v : ℕ) → is_owned_by left.job.plan n v ≡ true → middle.is_real v ≡ false
   seam_unreal v owned =
-      let both = seam_is_apart left.job.graph left.job.plan n left.node right.node v (shot_of left) one.job.plan children
+      let both = seam_is_apart left.job.graph left.job.plan n left.node right.node v (solved_shot left) one.job.plan children
       (owned_is_own left.job.graph left.job.plan n v one.job.plan owned) in
       or_from (p.is_real v) (q.is_real v) both.0 both.1
 
   pub real_either : (v : ℕ) → whole.is_real v ≡ (middle.is_real v || is_own left.job.graph left.job.plan n v)
-  real_either v = fusion_is_parts left.job.graph left.job.plan n left.node right.node v (shot_of left) one.job.plan children
+  real_either v = fusion_is_parts left.job.graph left.job.plan n left.node right.node v (solved_shot left) one.job.plan children
 
   pub seam_real : (v : ℕ) → is_owned_by left.job.plan n v ≡ true → whole.is_real v ≡ true
   seam_real v owned =

@@ -7,13 +7,14 @@ use Rattle.std.specs.List.Sorted.{IsStrictlyIncreasing}
 use Rattle.std.proofs.lemmas.Bool.{both_ways, false_from_ne_true, false≢true, or_cases, or_left, or_right}
 use Rattle.std.proofs.lemmas.Grind.{flat_map-append}
 use Rattle.std.proofs.lemmas.List.Elements.{All-head, All-tail}
+use Rattle.std.proofs.lemmas.List.Kept.{IsStrictlyIncreasing-filter}
 use Rattle.fb_graph.specs.Parity.{is_in}
 use Rattle.fb_graph.specs.Problem.{edge_at, no_edge}
 use Rattle.fb_graph.specs.Certificate.{AreDistinct}
 use Rattle.fb_graph.specs.Components.{Leads}
 use Rattle.fb_graph.specs.Dual.{Node, cover_of, defects_of, is_empty, is_live, leaves}
 use Rattle.fb_graph.specs.Limits.{DecodingGraph, IsGraph, IsShot, no_shot}
-use Rattle.fb_graph.proofs.ShotGraphs.{shot_graph_is_graph}
+use Rattle.fb_graph.proofs.ShiftedShots.{shot_graph_is_graph}
 use Rattle.fb_graph.proofs.Among.{IsAmong, All_among, among_All, live_among}
 use Rattle.fb_graph.proofs.Members.{is_in-append, distinct_left}
 use Rattle.fb_graph.proofs.Sets.{distinct-filter, distinct_from_rising, is_in-head}
@@ -27,10 +28,11 @@ use Rattle.fb_blossoms.specs.Nodes as blossoms
 use Rattle.fb_half.specs.declared.matches.Match.{Match}
 use Rattle.fb_half.specs.InternalSeams.{AddsSingles, IsBeside, IsFreed, IsOpened, meets_seam, met_matches, met_nodes}
 use Rattle.fb_half.specs.Matchings.{MatchingValue, listed_names, match_links, matched_names, names_of}
-use Rattle.fb_half.specs.Merged.{IsPlanned, is_owned_by, seam_defects}
-use Rattle.fb_half.specs.Parts.{AreAgreed, PartValue, graph_in, problem_in, shot_of}
+use Rattle.fb_half.specs.Merged.{IsPlanned, is_owned_by, seam_defects, shot_seam}
+use Rattle.fb_half.specs.Parts.{AreAgreed, PartValue, graph_in, problem_in, shot_of, solved_shot}
 use Rattle.fb_half.specs.Translations.{children_at, link_by, ring_links}
-use Rattle.fb_half.proofs.BegunParts.{kept_real, shot_below}
+use Rattle.fb_half.proofs.BegunParts.{kept_real}
+use Rattle.fb_half.proofs.ShiftedLists.{shifted_rises}
 use Rattle.fb_half.proofs.FlatPermutations.{flat_permuted}
 use Rattle.fb_half.proofs.FreedMatches.{first_listed, firsts, link_in}
 use Rattle.fb_links.proofs.MovedLinks.{Table}
@@ -82,12 +84,6 @@ leaf_held nodes store x v agreed at =
     All_among (λ n. is_empty n.children ≡ true → defects_of n ≡ blossoms.defects_at store n.name) nodes agreed.leaves m a (ap is_empty childless)
     ∙ (ap (blossoms.defects_at store) named ∙ ap blossoms.defects_of at) in
     defect_in nodes m v a (ap (λ l. is_in l v) defect ∙ is_in-head v [])
-
--- the list that is read is that of the defects on the seam
-pub seam_read : (t plan : PlanTree) (n : ℕ) (l shot own read : List ℕ) → t ≡ plan → l ≡ shot → own ≡ filter (is_owned_by t n) l → read ≡ own
-    → read ≡ filter (is_owned_by plan n) shot
-seam_read t plan n l shot own read same same_shot is read_is =
-    read_is ∙ (is ∙ (ap (λ x. filter (is_owned_by x n) l) same ∙ ap (filter (is_owned_by plan n)) same_shot))
 
 -- the matches to the seam forgotten, then its defects added
 pub seam_opened : {U E : Type 0} (r : Result U E) (before : PartValue) (mid m : MatchingValue) (links : Table) (nodes : List Node)
@@ -149,20 +145,19 @@ module _ (w : PartValue) (job : IsJob w.job) (graph : IsGraph w.job.graph) (b : 
           step_below (graph_in w) (shot_graph_is_graph w.job.graph (shot_of w) graph shot).0 s (subst (λ es. s.edge < length es) b.edges is.within)
           (subst (λ es. Leads (edge_at es s.edge) s.from s.to) b.edges is.leads))))
 
-  pub shot_rises : IsStrictlyIncreasing (shot_of w).defects
-  shot_rises = shot.rising
-
-  pub shot_planned : All (λ v. v < length w.job.plan.owners) (shot_of w).defects
-  shot_planned = subst (λ n. All (λ v. v < n) (shot_of w).defects) (sym owners_are) (shot_below w.job.graph (shot_of w) shot)
+  pub given_rises : IsStrictlyIncreasing (shot_seam w.job w.slot w.node)
+  given_rises = IsStrictlyIncreasing-filter (is_owned_by w.job.plan w.node) (shot_of w).defects shot.rising
 
   abbrev pub seam : List ℕ
-  seam = filter (is_owned_by w.job.plan w.node) (shot_of w).defects
+  seam = seam_defects w.job w.slot w.node
 
   pub seam_distinct : AreDistinct seam
-  seam_distinct = distinct-filter (is_owned_by w.job.plan w.node) (shot_of w).defects (distinct_from_rising (shot_of w).defects shot.rising)
+  seam_distinct =
+      distinct-filter (is_owned_by w.job.plan w.node) (solved_shot w).defects
+      (distinct_from_rising (solved_shot w).defects (shifted_rises w.job.graph (shot_of w)))
 
   pub seam_owned : All (λ v. is_owned_by w.job.plan w.node v ≡ true) seam
-  seam_owned = kept_real (is_owned_by w.job.plan w.node) (shot_of w).defects
+  seam_owned = kept_real (is_owned_by w.job.plan w.node) (solved_shot w).defects
 
   pub bare : (v : ℕ) → is_owned_by w.job.plan w.node v ≡ true → cover_of w.nodes v ≡ None
   bare v owned = step (cover_of w.nodes v) refl

@@ -2,11 +2,15 @@
 use Rattle.std.specs.Prelude.{ℕ, ◌≡◌, List, [], ◌∷◌, length, filter}
 use Rattle.fb_graph.specs.Dual.{Node, leaf}
 use Rattle.fb_plan.specs.Plans.{JobValue}
-use Rattle.fb_half.specs.Parts.{PartValue, problem_in, shot_of}
+use Rattle.fb_half.specs.Parts.{PartValue, problem_in, shot_of, solved_shot}
 
 -- the defects of the shot at the part's real vertices, in their order
+abbrev pub shot_defects : PartValue → List ℕ
+shot_defects w = filter (problem_in w).is_real (shot_of w).defects
+
+-- the defects that the part solves, in their order: the shifted ones at its real vertices
 abbrev pub own_defects : PartValue → List ℕ
-own_defects w = filter (problem_in w).is_real (shot_of w).defects
+own_defects w = filter (problem_in w).is_real (solved_shot w).defects
 
 -- each defect as a node of radius 0, with the name at its place
 abbrev pub leaves_by : List ℕ → List ℕ → List Node

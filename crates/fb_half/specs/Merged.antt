@@ -5,6 +5,7 @@ use Rattle.fb_graph.specs.Laws.{Link}
 use Rattle.fb_graph.specs.Limits.{no_shot}
 use Rattle.fb_graph.specs.Parity.{is_in}
 use Rattle.fb_graph.specs.RenamedNodes.{renamed_nodes}
+use Rattle.fb_graph.specs.Signs.{shifted_shot}
 use Rattle.fb_plan.specs.Plans.{JobValue, PlanTree, owner_of}
 use Rattle.fb_links.specs.declared.walk.Step.{Step}
 use Rattle.fb_links.specs.Table.{link_at}
@@ -48,8 +49,12 @@ abbrev pub freed_in : PartValue → ℕ → List ℕ
 freed_in w n = map (λ m. m.first) (seam_matches w n)
 
 -- the defects of the shot that the node owns
+abbrev pub shot_seam : JobValue → ℕ → ℕ → List ℕ
+shot_seam j s n = filter (is_owned_by j.plan n) (get_or j.shots s no_shot).defects
+
+-- the shifted defects that the node owns, which are solved
 abbrev pub seam_defects : JobValue → ℕ → ℕ → List ℕ
-seam_defects j s n = filter (is_owned_by j.plan n) (get_or j.shots s no_shot).defects
+seam_defects j s n = filter (is_owned_by j.plan n) (shifted_shot j.graph (get_or j.shots s no_shot)).defects
 
 -- the links that stay
 abbrev pub staying_links : PartValue → ℕ → List ℕ
@@ -64,7 +69,7 @@ abbrev pub renamed_match : (ℕ → ℕ) → (ℕ → ℕ) → Match → Match
 renamed_match g f m = record { link = g m.link; first = f m.first; second = renamed_second f m.second }
 
 -- The part of the job's node n: all nodes of both children, all links but those of matches to vertices that n owns, and
--- each defect that n owns as a node of radius 0. Unmatched are the nodes of the forgotten links and these defects.
+-- each shifted defect that n owns as a node of radius 0. Unmatched are the nodes of the forgotten links and these defects.
 pub record IsMerged (j : JobValue) (n : ℕ) (left right after : PartValue) : Type 0 where
   pub job : after.job ≡ j
   pub slot : after.slot ≡ left.slot

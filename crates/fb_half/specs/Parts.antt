@@ -7,6 +7,7 @@ use Rattle.fb_graph.specs.Laws.{has_real_end}
 use Rattle.fb_graph.specs.Dual.{Node, defects_of, is_empty, is_live}
 use Rattle.fb_graph.specs.Limits.{DecodingGraph, ShotValue, no_shot}
 use Rattle.fb_graph.specs.ShotGraphs.{shot_graph}
+use Rattle.fb_graph.specs.Signs.{shifted_shot}
 use Rattle.fb_plan.specs.Plans.{JobValue, node_count, problem_at}
 use Rattle.fb_plan.specs.Laws.{IsJob}
 use Rattle.fb_links.specs.declared.walk.Step.{Step}
@@ -39,9 +40,13 @@ shot_of w = get_or w.job.shots w.slot no_shot
 abbrev pub graph_in : PartValue → DecodingGraph
 graph_in w = shot_graph w.job.graph (shot_of w)
 
--- the sub-problem of the part's node
+-- the shot that is solved: its defects are the shifted ones
+abbrev pub solved_shot : PartValue → ShotValue
+solved_shot w = shifted_shot w.job.graph (shot_of w)
+
+-- the sub-problem of the part's node: weights without their signs, and shifted defects
 abbrev pub problem_in : PartValue → Problem
-problem_in w = problem_at (graph_in w) w.job.plan w.node (shot_of w)
+problem_in w = problem_at (graph_in w) w.job.plan w.node (solved_shot w)
 
 -- the part as the laws see it
 abbrev pub state_of : PartValue → PartState

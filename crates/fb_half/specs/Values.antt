@@ -2,7 +2,7 @@
 use Rattle.std.specs.Prelude.{◌≡◌}
 use Rattle.fb_plan.specs.Scopes.{scope_graph}
 use Rattle.fb_plan.specs.declared.scope.NodeScope.{NodeScope}
-use Rattle.fb_half.specs.Beginnings.{own_defects}
+use Rattle.fb_half.specs.Beginnings.{shot_defects}
 use Rattle.fb_half.specs.Parts.{PartValue, graph_in, problem_in}
 use Rattle.fb_half.specs.Seams.{AreListed}
 use Rattle.fb_half.specs.declared.parts.Parts.{Parts}
@@ -31,4 +31,4 @@ pub record HasScope (parts : Parts) : Type 0 where
   pub plan : parts.regions.scope.plan.now ≡ parts.job.now.plan
   pub node : parts.regions.scope.node ≡ parts.node
   pub listed : AreListed (problem_in (part_of parts)).is_real parts.job.now.plan parts.seams parts.links parts.matching.matches
-  pub defects : parts.defects.items ≡ own_defects (part_of parts)
+  pub defects : parts.defects.items ≡ shot_defects (part_of parts)

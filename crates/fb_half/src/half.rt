@@ -3,7 +3,7 @@ ghost use Rattle.fb_graph.specs.Certificate.{IsPacking};
 ghost use Rattle.fb_graph.specs.Laws.{IsSolved, odd_edges};
 ghost use Rattle.fb_laws.specs.OpenedLinks.{opened_links};
 ghost use Rattle.fb_laws.specs.Works.{positive_cuts};
-ghost use Rattle.fb_half.specs.Beginnings.{own_defects};
+ghost use Rattle.fb_half.specs.Beginnings.{shot_defects};
 ghost use Rattle.fb_half.specs.Matchings.{match_links};
 ghost use Rattle.fb_half.specs.Parts.{IsPart, problem_in, state_of};
 ghost use Rattle.fb_half.specs.Values.{HasScope, IsScopeOf, part_of};
@@ -128,7 +128,7 @@ impl<'a> Half<'a> {
 
     /// The shot's defects at the part's real vertices, rising.
     pub fn defects(&self) -> &[u32]
-        ensures { result.now ≡ own_defects self.now }
+        ensures { result.now ≡ shot_defects self.now }
     {
         &self.parts.defects
     }

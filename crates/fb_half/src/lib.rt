@@ -12,6 +12,7 @@ pub mod merging;
 pub mod parts;
 mod reach;
 pub mod seams;
+mod shifting;
 pub mod spare;
 mod start;
 mod unions;

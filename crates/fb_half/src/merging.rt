@@ -21,7 +21,7 @@ ghost use Rattle.fb_half.specs.InternalSeams.{AddsSingles, AreBesideListed, IsFr
 ghost use Rattle.fb_half.specs.InternalStandings.{has_name, no_match};
 ghost use Rattle.fb_half.specs.Matchings.{listed_names, match_links, matched_names};
 ghost use Rattle.fb_half.specs.InternalUnions.{IsRisingUnion};
-ghost use Rattle.fb_half.specs.Merged.{IsPlanned, is_owned_by, leads_to_seam, renamed_match, seam_defects};
+ghost use Rattle.fb_half.specs.Merged.{IsPlanned, is_owned_by, leads_to_seam, renamed_match, seam_defects, shot_seam};
 ghost use Rattle.fb_half.specs.Parts.{problem_in};
 ghost use Rattle.fb_half.specs.Seams.{AreListed, names_under};
 ghost use Rattle.fb_half.specs.Translations.{link_by};
@@ -33,6 +33,7 @@ use crate::matching::Matching;
 use crate::parts::Parts;
 use crate::reach::within;
 use crate::seams::{Seams, far_owner};
+use crate::shifting::{NodeDefects, odd_among};
 use crate::spare::EmptyTables;
 use crate::start::add_leaf;
 use crate::unions::add_rising;
@@ -40,7 +41,7 @@ use fb_blossoms::Blossoms;
 use fb_graph::{NoMemory, NumberList};
 use fb_links::names::{Names, names_of};
 use fb_links::{LinkId, Links, NodeId};
-use fb_plan::{NodeScope, Plan};
+use fb_plan::{Job, NodeScope, Plan};
 use fb_regions::{Regions, SpareRegions};
 use std::alloc::Global;
 
@@ -332,25 +333,45 @@ fn free_nodes(
     Ok(())
 }
 
-/// The defects that the node of the plan owns, in their order. Passes over those within the node's reach alone.
-fn seam_defects(
+/// The listed vertices that the node of the plan owns, in their order. Passes over those within the node's reach alone.
+fn seam_vertices(
     alloc: Global,
     plan: &Plan,
     node: u32,
-    defects: &[u32],
+    vertices: &[u32],
 ) -> Result<Vec<u32>, NoMemory>
     requires node { node < node_count plan.now }
-    requires rising { IsStrictlyIncreasing defects.now }
-    requires vertices { All (λ v. v < length plan.now.owners) defects.now }
-    ensures { IfOk result (λ own. own.items ≡ filter (is_owned_by plan.now node) defects.now) }
+    requires rising { IsStrictlyIncreasing vertices.now }
+    requires below { All (λ v. v < length plan.now.owners) vertices.now }
+    ensures { IfOk result (λ own. own.items ≡ filter (is_owned_by plan.now node) vertices.now) }
 {
-    let reached = within(defects, plan.reach(node));
+    let reached = within(vertices, plan.reach(node));
     let mut own = NumberList::from_vec(Vec::new(alloc));
     for v in reached {
         let is_owned = plan.owner(*v) == Some(node);
         own.push_if(is_owned, *v)?;
     }
     Ok(own.into_vec())
+}
+
+/// The defects of a shot of the job that the node of the plan owns, and the shifted ones. Passes over the vertices of the
+/// shot's lists and the graph's within the node's reach alone.
+fn seam_defects(alloc: Global, job: &Job<'_>, slot: u32, node: u32) -> Result<NodeDefects, NoMemory>
+    requires slot { slot < length job.now.shots }
+    requires node { node < node_count job.now.plan }
+    ensures given { IfOk result (λ own. own.given.items ≡ shot_seam job.now slot node) }
+    ensures shifted { IfOk result (λ own. own.shifted.items ≡ seam_defects job.now slot node) }
+{
+    job.keeps();
+    let graph = job.graph();
+    graph.limits();
+    let plan = job.plan();
+    let shot = &job.shots()[slot as usize];
+    let given = seam_vertices(alloc, plan, node, shot.as_slice())?;
+    let by_graph = seam_vertices(alloc, plan, node, graph.turned())?;
+    let by_shot = seam_vertices(alloc, plan, node, shot.turned())?;
+    let shifted = odd_among(alloc, &given, &by_graph, &by_shot)?;
+    Ok(NodeDefects { given, shifted })
 }
 
 /// Makes each of the vertices a node of radius 0, without a match.
@@ -376,7 +397,8 @@ fn add_leaves(
     Ok(())
 }
 
-/// Makes the vertices that the part's node owns real: removes the matches to them, and makes their defects further nodes.
+/// Makes the vertices that the part's node owns real: removes the matches to them, and makes the shifted defects there
+/// further nodes.
 fn open_seam(alloc: Global, parts: &mut Parts<'_>) -> Result<(), NoMemory>
     requires scope { IsScopeOf parts.old.regions.scope (part_of parts.old) }
     requires beside { AreBesideListed parts.old.seams (part_of parts.old) }
@@ -384,7 +406,7 @@ fn open_seam(alloc: Global, parts: &mut Parts<'_>) -> Result<(), NoMemory>
     ensures opened { OnOk result (IsOpened (drop (length (parts.old.matching.unmatched ++ met_nodes (part_of parts.old))) parts.new.matching.unmatched) (part_of parts.old) (part_of parts.new)) }
     ensures scope { OnOk result (IsScopeOf parts.new.regions.scope (part_of parts.new)) }
     ensures listed { OnOk result (AreListed (problem_in (part_of parts.new)).is_real parts.new.job.now.plan parts.new.seams parts.new.links parts.new.matching.matches) }
-    ensures defects { OnOk result (IsRisingUnion parts.old.defects.items (seam_defects parts.old.job.now parts.old.slot parts.old.node) parts.new.defects.items) }
+    ensures defects { OnOk result (IsRisingUnion parts.old.defects.items (shot_seam parts.old.job.now parts.old.slot parts.old.node) parts.new.defects.items) }
 {
     let Parts {
         regions,
@@ -404,9 +426,9 @@ fn open_seam(alloc: Global, parts: &mut Parts<'_>) -> Result<(), NoMemory>
     let listed = seams.take(alloc, *node);
     let seam = Seam { plan, node: *node };
     free_nodes(alloc, matching, links, &listed, &seam)?;
-    let own = seam_defects(alloc, plan, *node, job.shots()[*slot as usize].as_slice())?;
-    add_rising(alloc, defects, &own)?;
-    add_leaves(alloc, regions, blossoms, matching, &own)
+    let own = seam_defects(alloc, job, *slot, *node)?;
+    add_rising(alloc, defects, &own.given)?;
+    add_leaves(alloc, regions, blossoms, matching, &own.shifted)
 }
 
 /// Takes over the right part's matches, and opens the seam.
@@ -419,7 +441,7 @@ pub(crate) fn complete(alloc: Global, merged: &mut MergedParts<'_>) -> Result<()
     ensures opened { OnOk result (IsOpened (drop (length ((joined_part merged.old).matching.unmatched ++ met_nodes (joined_part merged.old))) merged.new.parts.matching.unmatched) (joined_part merged.old) (part_of merged.new.parts)) }
     ensures scope { OnOk result (IsScopeOf merged.new.parts.regions.scope (part_of merged.new.parts)) }
     ensures listed { OnOk result (AreListed (problem_in (part_of merged.new.parts)).is_real merged.new.parts.job.now.plan merged.new.parts.seams merged.new.parts.links merged.new.parts.matching.matches) }
-    ensures defects { OnOk result (IsRisingUnion (merged.old.parts.defects.items ++ merged.old.other_defects.items) (seam_defects merged.old.parts.job.now merged.old.parts.slot merged.old.parts.node) merged.new.parts.defects.items) }
+    ensures defects { OnOk result (IsRisingUnion (merged.old.parts.defects.items ++ merged.old.other_defects.items) (shot_seam merged.old.parts.job.now merged.old.parts.slot merged.old.parts.node) merged.new.parts.defects.items) }
 {
     let MergedParts {
         parts,

@@ -1,4 +1,4 @@
-//! The defects of a shot within a reach.
+//! The vertices of a list within a reach.
 
 ghost use Rattle.std.specs.Prelude.{◌≡◌, filter};
 ghost use Rattle.std.specs.List.Sorted.{IsStrictlyIncreasing};
@@ -6,11 +6,11 @@ ghost use Rattle.fb_plan.specs.Reaches.{is_reached};
 
 use fb_plan::Reach;
 
-/// The defects of a shot within the reach, found by bisection.
-pub(crate) fn within(defects: &[u32], reach: Reach) -> &[u32]
-    requires { IsStrictlyIncreasing defects.now }
-    ensures { result.now ≡ filter (is_reached reach) defects.now }
+/// The vertices of a rising list within the reach, found by bisection.
+pub(crate) fn within(vertices: &[u32], reach: Reach) -> &[u32]
+    requires { IsStrictlyIncreasing vertices.now }
+    ensures { result.now ≡ filter (is_reached reach) vertices.now }
 {
-    let from = &defects[defects.partition_point(|v| *v < reach.first)..];
+    let from = &vertices[vertices.partition_point(|v| *v < reach.first)..];
     &from[..from.partition_point(|v| *v < reach.end)]
 }

@@ -4,6 +4,7 @@ ghost use Rattle.fb_graph.specs.Certificate.{AreDistinct};
 ghost use Rattle.fb_graph.specs.Dual.{cover_of, is_live, leaf};
 ghost use Rattle.fb_graph.specs.Limits.{no_shot};
 ghost use Rattle.fb_graph.specs.Parity.{is_in};
+ghost use Rattle.fb_graph.specs.Signs.{shifted_defects};
 ghost use Rattle.fb_plan.specs.Plans.{problem_at};
 ghost use Rattle.fb_plan.specs.Scopes.{scope_problem};
 ghost use Rattle.fb_blossoms.specs.Nodes as blossoms;
@@ -14,6 +15,7 @@ ghost use Rattle.fb_half.specs.Values.{IsScopeOf, part_of};
 use crate::matching::Matching;
 use crate::parts::Parts;
 use crate::reach::within;
+use crate::shifting::{NodeDefects, odd_among};
 use fb_blossoms::Blossoms;
 use fb_graph::{NoMemory, NumberList, Scope};
 use fb_links::NodeId;
@@ -21,20 +23,20 @@ use fb_plan::{Job, NodeScope, Reach};
 use fb_regions::Regions;
 use std::alloc::Global;
 
-/// The defects at real vertices of a scope, in their order. Passes over those within a reach alone, which has all its real
-/// vertices.
-pub(crate) fn own_defects(
+/// The listed vertices that are real in a scope, in their order. Passes over those within a reach alone, which has all its
+/// real vertices.
+fn own_vertices(
     alloc: Global,
     scope: &NodeScope<'_>,
     reach: Reach,
-    defects: &[u32],
+    vertices: &[u32],
 ) -> Result<Vec<u32>, NoMemory>
     requires reach { LiesWithin (scope_problem scope.now) reach }
-    requires rising { IsStrictlyIncreasing defects.now }
-    requires vertices { All (λ v. v < scope.now.graph.now.vertices) defects.now }
-    ensures { IfOk result (λ own. own.items ≡ filter (scope_problem scope.now).is_real defects.now) }
+    requires rising { IsStrictlyIncreasing vertices.now }
+    requires below { All (λ v. v < scope.now.graph.now.vertices) vertices.now }
+    ensures { IfOk result (λ own. own.items ≡ filter (scope_problem scope.now).is_real vertices.now) }
 {
-    let reached = within(defects, reach);
+    let reached = within(vertices, reach);
     let mut own = NumberList::from_vec(Vec::new(alloc));
     for v in reached {
         own.push_if(scope.is_real(*v), *v)?;
@@ -42,21 +44,40 @@ pub(crate) fn own_defects(
     Ok(own.into_vec())
 }
 
-/// The defects of a shot of the job at vertices of a unit, in their order. Passes over those within the unit's reach alone.
+/// The defects of a scope's shot at its real vertices, and the shifted ones there. Passes over the vertices of the shot's
+/// lists and the graph's within a reach alone, which has all real vertices of the scope.
+fn own_defects(alloc: Global, scope: &NodeScope<'_>, reach: Reach) -> Result<NodeDefects, NoMemory>
+    requires { LiesWithin (scope_problem scope.now) reach }
+    ensures given { IfOk result (λ own. own.given.items ≡ filter (scope_problem scope.now).is_real scope.now.shot.now.defects) }
+    ensures shifted { IfOk result (λ own. own.shifted.items
+        ≡ filter (scope_problem scope.now).is_real (shifted_defects scope.now.graph.now scope.now.shot.now)) }
+{
+    let (graph, shot) = (scope.graph, scope.shot);
+    graph.limits();
+    let given = own_vertices(alloc, scope, reach, shot.as_slice())?;
+    let by_graph = own_vertices(alloc, scope, reach, graph.turned())?;
+    let by_shot = own_vertices(alloc, scope, reach, shot.turned())?;
+    let shifted = odd_among(alloc, &given, &by_graph, &by_shot)?;
+    Ok(NodeDefects { given, shifted })
+}
+
+/// The defects of a shot of the job at vertices of a unit, and the shifted ones there. Passes over the vertices of the shot's
+/// lists and the graph's within the unit's reach alone.
 pub(crate) fn defects_at(
     alloc: Global,
     job: &Job<'_>,
     slot: u32,
     node: u32,
-) -> Result<Vec<u32>, NoMemory>
+) -> Result<NodeDefects, NoMemory>
     requires slot { slot < length job.now.shots }
     requires unit { node < job.now.plan.units }
-    ensures { IfOk result (λ own. own.items ≡ filter (problem_at job.now.graph job.now.plan node no_shot).is_real (get_or job.now.shots slot no_shot).defects) }
+    ensures given { IfOk result (λ own. own.given.items ≡ filter (problem_at job.now.graph job.now.plan node no_shot).is_real (get_or job.now.shots slot no_shot).defects) }
+    ensures shifted { IfOk result (λ own. own.shifted.items ≡ filter (problem_at job.now.graph job.now.plan node no_shot).is_real (shifted_defects job.now.graph (get_or job.now.shots slot no_shot))) }
 {
-    job.keeps();
     let scope = job.scope(slot, node);
     let reach = job.plan().reach(node);
-    own_defects(alloc, &scope, reach, job.shots()[slot as usize].as_slice())
+    let own = own_defects(alloc, &scope, reach)?;
+    Ok(own)
 }
 
 /// Makes the vertex a node of radius 0, without a match.

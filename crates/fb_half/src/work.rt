@@ -1,7 +1,7 @@
 ghost use Rattle.std.specs.Prelude.{◌≡◌, ◌<◌, [], length, IfOk, Some};
 ghost use Rattle.fb_plan.specs.Plans.{children_of};
 ghost use Rattle.fb_half.specs.Merged.{IsMerged};
-ghost use Rattle.fb_half.specs.Beginnings.{IsBegun, own_defects};
+ghost use Rattle.fb_half.specs.Beginnings.{IsBegun, shot_defects};
 ghost use Rattle.fb_half.specs.Matchings.{match_links};
 ghost use Rattle.fb_half.specs.Parts.{IsPart};
 ghost use Rattle.fb_half.specs.Values.{HasScope, IsScopeOf, part_of};
@@ -11,6 +11,7 @@ use crate::half::Half;
 use crate::matching::Matching;
 use crate::merging::{MergedParts, complete, merged_parts};
 use crate::parts::Parts;
+use crate::shifting::NodeDefects;
 use crate::spare::{Spare, empty_parts};
 use crate::start::{defects_at, start};
 use fb_blossoms::Blossoms;
@@ -134,7 +135,7 @@ impl<'a> Work<'a> {
 
     /// The shot's defects at the part's real vertices, rising.
     pub fn defects(&self) -> &[u32]
-        ensures { result.now ≡ own_defects self.now }
+        ensures { result.now ≡ shot_defects self.now }
     {
         &self.parts.defects
     }
@@ -146,9 +147,9 @@ impl<'a> Work<'a> {
         self.parts.matching.links()
     }
 
-    /// A unit's part before any search: each defect of the shot at a vertex of the unit is a node of radius 0, and none is
-    /// matched. Takes time for each defect of the shot within the unit's reach, for the logarithm of all, and for each 512
-    /// vertices of the graph.
+    /// A unit's part before any search: each shifted defect of the shot at a vertex of the unit is a node of radius 0, and
+    /// none is matched. Takes time for each defect of the shot and each vertex that shifts one within the unit's reach, for
+    /// the logarithm of all, and for each 512 vertices of the graph.
     pub fn begin(
         alloc: Global,
         job: &'a Job<'a>,
@@ -177,22 +178,23 @@ impl<'a> Work<'a> {
     {
         job.keeps();
         let (own, spare) = both(defects_at(alloc, job, slot, node), spare)?;
+        let NodeDefects { given, shifted } = own;
         let mut parts = empty_parts(alloc, job, slot, node, spare)?;
-        let parts = start(alloc, &mut parts, &own).and(Ok(parts))?;
+        let parts = start(alloc, &mut parts, &shifted).and(Ok(parts))?;
         state_begins();
         Ok(Work {
             parts: Parts {
-                defects: own,
+                defects: given,
                 ..parts
             },
         })
     }
 
     /// The part of a fusion, made of its children's solved parts (Wu and Zhong 2023): all their cuts, and all their links
-    /// but those of matches to vertices that the fusion owns. The nodes of these matches and the defects that the fusion
-    /// owns are unmatched: first the left part's nodes, then the right part's, then the defects in rising order. Takes time
-    /// for the right part, for the nodes of the left part that are or were matched to those vertices, for each defect of the
-    /// shot within the fusion's reach, and for the logarithm of all.
+    /// but those of matches to vertices that the fusion owns. The nodes of these matches and the shifted defects that the
+    /// fusion owns are unmatched: first the left part's nodes, then the right part's, then the defects in rising order. Takes
+    /// time for the right part, for the nodes of the left part that are or were matched to those vertices, for each defect of
+    /// the shot and each vertex that shifts one within the fusion's reach, and for the logarithm of all.
     pub fn merge(
         alloc: Global,
         job: &'a Job<'a>,

@@ -6,8 +6,11 @@ use Rattle.std.specs.List.{range_with_len}
 use Rattle.fb_graph.specs.Problem.{edge_at, no_edge, touches}
 use Rattle.fb_graph.specs.Limits.{DecodingGraph, ShotValue, IsGraph, IsShot, IsWithinLimits, no_shot}
 use Rattle.fb_graph.specs.ShotGraphs.{changed_edges, shot_graph}
+use Rattle.fb_graph.specs.Signs.{shifted_shot}
 use Rattle.fb_graph.specs.declared.parts.Edge.{Edge}
-use Rattle.fb_graph.proofs.ShotGraphs.{first_changed, second_changed, length_changed, same_first_odd, shot_graph_is_graph, touches_changed}
+use Rattle.fb_graph.proofs.ShiftedShots.{shot_graph_is_graph}
+use Rattle.fb_graph.proofs.ShotGraphs.{first_changed, second_changed, length_changed, same_first_odd, touches_changed}
+use Rattle.fb_graph.proofs.ShiftedRows.{same_shifted_odd}
 use Rattle.fb_plan.proofs.SubProblems.{node_has_no_odd_closed}
 use Rattle.fb_plan.specs.Laws.{PlanOfShotGraph, ShotHasNoOddClosed}
 use Rattle.fb_plan.specs.Plans.{PlanTree, IsPlan, are_unrelated, goes_across, owner_of, problem_at}
@@ -28,8 +31,9 @@ shot_plan g t shot plan = record {
 }
 
 pub shot_even : ShotHasNoOddClosed
-shot_even g t n shot none =
-    node_has_no_odd_closed (shot_graph g shot) t n shot ((same_first_odd g shot None).0 none)
+shot_even g t n shot graph fits none =
+    node_has_no_odd_closed (shot_graph g shot) t n (shifted_shot g shot)
+    ((same_shifted_odd g shot None graph fits).0 ((same_first_odd g shot None).0 none))
 
 -- a scope over the weights of a shot keeps the limits
 pub scope_limits : (g : DecodingGraph) (t : PlanTree) (n : ℕ) (shot : ShotValue) → IsGraph g → IsShot g shot

@@ -1,13 +1,15 @@
 -- What every job keeps, and what follows from the definitions alone.
 use Rattle.std.specs.Prelude.{ℕ, ◌≡◌, ◌+◌, ◌<◌, ◌^◌, ◌⊎◌, true, length, All, Some, None}
 use Rattle.fb_graph.specs.Components.{IsFirstOdd}
-use Rattle.fb_graph.specs.Limits.{DecodingGraph, IsShot, ShotValue, problem_of}
+use Rattle.fb_graph.specs.Limits.{DecodingGraph, IsGraph, IsShot, ShotValue, problem_of}
 use Rattle.fb_graph.specs.ShotGraphs.{shot_graph}
+use Rattle.fb_graph.specs.Signs.{shifted_shot}
 use Rattle.fb_graph.specs.Laws.{HasNoOddClosed, IsPart, AreSeparated}
 use Rattle.fb_plan.specs.Plans.{PlanTree, JobValue, IsPlan, IsTree, children_of, is_within, node_count, parent_of, problem_at, root_of}
 
 -- what every job keeps: fewer than 2^32 shots, each with a correction
 pub record IsJob (job : JobValue) : Type 0 where
+  pub graph : IsGraph job.graph
   pub plan : IsPlan job.graph job.plan
   pub count : length job.shots < 2 ^ 32
   pub shots : All (IsShot job.graph) job.shots
@@ -23,10 +25,10 @@ abbrev pub NodeHasNoOddClosed : Type 0
 NodeHasNoOddClosed = (g : DecodingGraph) (t : PlanTree) (n : ℕ) (shot : ShotValue)
     → IsFirstOdd (problem_of g shot) None → HasNoOddClosed (problem_at g t n shot)
 
--- That holds with the weights of the shot too.
+-- That holds with the weights of the shot and its shifted defects too.
 abbrev pub ShotHasNoOddClosed : Type 0
-ShotHasNoOddClosed = (g : DecodingGraph) (t : PlanTree) (n : ℕ) (shot : ShotValue)
-    → IsFirstOdd (problem_of g shot) None → HasNoOddClosed (problem_at (shot_graph g shot) t n shot)
+ShotHasNoOddClosed = (g : DecodingGraph) (t : PlanTree) (n : ℕ) (shot : ShotValue) → IsGraph g → IsShot g shot
+    → IsFirstOdd (problem_of g shot) None → HasNoOddClosed (problem_at (shot_graph g shot) t n (shifted_shot g shot))
 
 -- A child's sub-problem is a part of its parent's.
 abbrev pub ChildIsPart : Type 0

@@ -1,4 +1,4 @@
--- The sub-problem of a node of a plan with the weights of a shot.
+-- The sub-problem of a node of a plan with the weights of a shot, without their signs.
 use Rattle.fb_graph.specs.Limits.{DecodingGraph, no_shot}
 use Rattle.fb_graph.specs.Problem.{Problem}
 use Rattle.fb_graph.specs.ShotGraphs.{shot_graph}

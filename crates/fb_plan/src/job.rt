@@ -37,6 +37,7 @@ impl<'a> Job<'a> {
         requires even { All (λ shot. IsFirstOdd (problem_of graph.now shot) None) shots.items }
         ensures { result ≡ record { graph = graph.now; plan = plan.now; shots = shots.items } }
     {
+        graph.limits();
         Job { graph, plan, shots }
     }
 

@@ -20,7 +20,7 @@ pub fn sub_problems()
     ensures even { NodeHasNoOddClosed }
 {}
 
-/// The same plan, and the same promise, for the graph with the weights of a shot.
+/// The same plan, and the same promise, for the graph with the weights of a shot and for the shot's shifted defects.
 pub fn weights_of_nodes()
     ensures plan { PlanOfShotGraph }
     ensures even { ShotHasNoOddClosed }

@@ -11,7 +11,8 @@ use fb_graph::{Graph, Scope, Shot};
 
 /// The sub-problem of a node of a plan (Wu and Zhong 2023): the vertices owned in its subtree are real, all others
 /// are boundary. It has exactly as many places as the plan has real vertices in the subtree: a vertex's place is that
-/// among them (`Plan::place_in`). Edges weigh what they do for a shot of the graph. `Job::scope` makes the scope of a slot.
+/// among them (`Plan::place_in`). Edges weigh what they do for a shot of the graph, without their signs. `Job::scope` makes
+/// the scope of a slot.
 #[derive(Clone, Copy)]
 pub struct NodeScope<'a> {
     pub graph: &'a Graph,
@@ -41,7 +42,7 @@ impl Scope for NodeScope<'_> {
     }
 
     fn weight(&self, e: u32) -> u64 {
-        self.shot.weight(self.graph, e)
+        self.shot.absolute_weight(self.graph, e)
     }
 
     fn edges_at(&self, v: u32) -> &[u32] {

@@ -1,15 +1,17 @@
 -- What a solved part gives the calls of its row.
-use Rattle.std.proofs.Common.{◌≡◌, ◌≤◌, ◌^◌, inl, inr, ℕ, ◌==◌, ◌||◌, Bool, true, false, List, [], ◌∷◌, map, filter, cond, flat_map, All, AllPairs, Option, Some, None, is_some, refl, sym, ◌∙◌, ap, subst}
+use Rattle.std.proofs.Common.{◌≡◌, ◌≤◌, ◌^◌, inl, inr, ℕ, ◌==◌, ◌||◌, Bool, true, false, List, [], ◌∷◌, ◌++◌, map, filter, cond, flat_map, All, AllPairs, Option, Some, None, is_some, refl, sym, ◌∙◌, ap, subst}
 use Rattle.std.specs.List.Sorted.{IsStrictlyIncreasing}
 use Rattle.std.proofs.lemmas.Bool.{both_ways, cases_Bool, eq-eqb, or_left, or_right}
 use Rattle.std.proofs.lemmas.List.Elements.{All-append}
 use Rattle.std.proofs.lemmas.List.Folds.{list_any-append}
 use Rattle.std.proofs.lemmas.List.Kept.{AllPairs-filter}
 use Rattle.std.specs.List.{AllZip}
+use Rattle.std.specs.Prelude.{ℤ, pos, ◌+ℤ◌}
 use Rattle.fb_graph.specs.Parity.{is_in, is_odd_count}
 use Rattle.fb_graph.specs.Answers.{IsRight}
 use Rattle.fb_graph.specs.Certificate.{AreRising, total_value}
-use Rattle.fb_graph.specs.ShotGraphs.{shot_problem}
+use Rattle.fb_graph.specs.Limits.{IsGraph}
+use Rattle.fb_graph.specs.Signs.{base_of}
 use Rattle.fb_graph.specs.Printed.{DifferAsSets, HasPositiveCuts, IsResorted, is_positive}
 use Rattle.fb_graph.specs.Dual.{Node, all_cuts}
 use Rattle.fb_graph.specs.Dual as dual
@@ -28,7 +30,7 @@ use Rattle.fb_laws.proofs.HalvesKept.{positive_total}
 use Rattle.fb_laws.proofs.OpenedParts.{flat_among}
 use Rattle.fb_half.specs.Translations.{children_at, ring_at, ring_links}
 use Rattle.fb_half.specs.Matchings.{match_links}
-use Rattle.fb_half.specs.Parts.{IsPart, PartValue, shot_of}
+use Rattle.fb_half.specs.Parts.{IsPart, PartValue, graph_in, shot_of}
 use Rattle.fb_resolve.specs.Openings.{is_reached, numbers_of, opened_numbers, pair_numbers}
 use Rattle.fb_resolve.proofs.NumberedLinks.{opened_by_number}
 use Rattle.fb_resolve.proofs.Rings.{All_pairs}
@@ -144,20 +146,26 @@ positive_of_all cuts printed has = record {
   moved = has.moved;
 }
 
-pub right_row : (w : PartValue) (nodes : List Node) (links : List (Option (List Step))) (ids list edges ones : List ℕ) (cuts printed cut_list : List Cut) (weight : ℕ) → IsPart w → IsNested w.store
+pub right_row : (w : PartValue) (nodes : List Node) (links : List (Option (List Step))) (ids list edges signed ones : List ℕ) (cuts printed cut_list : List Cut)
+    (base weight : ℤ) (total : ℕ) → IsGraph w.job.graph → IsPart w → IsNested w.store
     → w.node ≡ root_of w.job.plan → w.matching.unmatched ≡ [] → nodes ≡ w.nodes → links ≡ w.links → list ≡ ids → ids ≡ numbers_of w
     → edges ≡ flat_map (λ id. map (λ s. s.edge) (walk_at links id)) list → cuts ≡ positive_cuts nodes
-    → IsStrictlyIncreasing ones → ((test : ℕ → Bool) → is_odd_count test ones ≡ is_odd_count test edges)
-    → HasPositiveCuts cuts printed → AreRising printed → cut_list ≡ cuts → weight ≡ total_value cut_list
-    → IsRight (shot_problem w.job.graph (shot_of w)) (Best ones weight printed)
-right_row w nodes links ids list edges ones cuts printed cut_list weight part nested root matched n l e f walked c rising parity positive in_order same total =
+    → ((test : ℕ → Bool) → is_odd_count test signed ≡ is_odd_count test (edges ++ (graph_in w).negatives))
+    → IsStrictlyIncreasing ones → ((test : ℕ → Bool) → is_odd_count test ones ≡ is_odd_count test signed)
+    → HasPositiveCuts cuts printed → AreRising printed → cut_list ≡ cuts → base ≡ base_of w.job.graph (shot_of w)
+    → total ≡ total_value cut_list → weight ≡ base +ℤ pos total
+    → IsRight w.job.graph (shot_of w) (Best ones base weight printed)
+right_row w nodes links ids list edges signed ones cuts printed cut_list base weight total graph part nested root matched n l e f walked c joined rising parity
+    positive in_order same base_is sum weighs =
     let whole : cuts ≡ positive_cuts w.nodes = c ∙ ap positive_cuts n in
     let edges_are : edges ≡ flat_map (λ id. map (λ s. s.edge) (walk_at w.links id)) (numbers_of w) =
     walked
     ∙ (ap (λ (k : List (Option (List Step))). flat_map (λ id. map (λ s. s.edge) (walk_at k id)) list) l
     ∙ ap (flat_map (λ id. map (λ s. s.edge) (walk_at w.links id))) (e ∙ f)) in
-    subst (λ (k : ℕ). IsRight (shot_problem w.job.graph (shot_of w)) (Best ones k printed))
-    (sym (total ∙ (ap total_value (same ∙ whole) ∙ positive_total w.nodes)))
-    (root_right opened_by_number w ones printed part nested root matched rising
-    (λ k. parity (λ j. j == k) ∙ ap (is_odd_count (λ j. j == k)) edges_are)
-    (positive_of_all (all_cuts w.nodes) printed (subst (λ (d : List Cut). HasPositiveCuts d printed) whole positive)) in_order)
+    let total_is : total ≡ total_value (all_cuts w.nodes) = sum ∙ (ap total_value (same ∙ whole) ∙ positive_total w.nodes) in
+    subst (λ (b : ℤ). IsRight w.job.graph (shot_of w) (Best ones b weight printed)) (sym base_is)
+    (subst (λ (k : ℤ). IsRight w.job.graph (shot_of w) (Best ones (base_of w.job.graph (shot_of w)) k printed))
+    (sym (weighs ∙ (λ i. base_is i +ℤ pos (total_is i))))
+    (root_right opened_by_number w ones printed graph part nested root matched rising
+    (λ k. parity (λ j. j == k) ∙ (joined (λ j. j == k) ∙ ap (λ (x : List ℕ). is_odd_count (λ j. j == k) (x ++ (graph_in w).negatives)) edges_are))
+    (positive_of_all (all_cuts w.nodes) printed (subst (λ (d : List Cut). HasPositiveCuts d printed) whole positive)) in_order))

@@ -1,13 +1,14 @@
 //! The row of a solved root.
 
-ghost use Rattle.std.specs.Prelude.{◌≡◌, ◌≤◌, ◌^◌, ◌++◌, true, map, flat_map, All, IfOk, OnOk};
+ghost use Rattle.std.specs.Prelude.{◌≡◌, ℕ, Bool, ◌≤◌, ◌^◌, ◌++◌, true, map, flat_map, All, IfOk, OnOk};
 ghost use Rattle.fb_graph.specs.Answers.{IsRight};
 ghost use Rattle.fb_graph.specs.Certificate.{total_value};
 ghost use Rattle.fb_graph.specs.Dual.{all_cuts};
-ghost use Rattle.fb_graph.specs.ShotGraphs.{shot_problem};
+ghost use Rattle.fb_graph.specs.Parity.{is_odd_count};
+ghost use Rattle.fb_graph.specs.Signs.{base_of};
 ghost use Rattle.fb_links.specs.Table.{is_live, walk_at};
 ghost use Rattle.fb_plan.specs.Plans.{root_of};
-ghost use Rattle.fb_half.specs.Parts.{shot_of};
+ghost use Rattle.fb_half.specs.Parts.{graph_in, shot_of};
 
 use crate::opening::opened;
 use fb_graph::{Cut, NoMemory, Row, Scope, odd_ones, printed_cuts};
@@ -16,23 +17,28 @@ use fb_links::{LinkId, Links, NodeId};
 use fb_regions::Regions;
 use std::alloc::Global;
 
-/// The row of the shot of a solved root: the edges that lie on an odd number of its links, once all blossoms are
-/// opened, and the cuts of positive value, which add up to the edges' weight. Its time is that of the part's nodes, of
-/// their vertices, of the layers that are printed and of the links' walks.
+/// The row of the shot of a solved root: the edges that lie on an odd number of its links, once all blossoms are opened, or
+/// weigh less than 0 for the shot, but not both; and the cuts of positive value, which together with all negative weights add
+/// up to the edges' weight. Its time is that of the part's nodes, of their vertices, of the layers that are printed, of the
+/// links' walks, and of the edges that weigh less than 0.
 pub fn resolve(alloc: Global, half: &Half) -> Result<Row, NoMemory>
     requires { half.now.node ≡ root_of half.now.job.plan }
-    ensures { IfOk result (IsRight (shot_problem half.now.job.graph (shot_of half.now))) }
+    ensures { IfOk result (IsRight half.now.job.graph (shot_of half.now)) }
 {
     half.keeps();
     half.blossoms().keeps();
+    half.job().graph().limits();
     let names = names_of(alloc, half.regions())?;
     let ids = opened(alloc, half.blossoms(), half.links(), &names, half.matches())?;
-    let edges = edges_of(alloc, half.links(), &ids)?;
+    let walked = edges_of(alloc, half.links(), &ids)?;
+    let (edges, base) = with_negatives(half, walked)?;
     let cuts = half.regions().cuts(alloc)?;
-    let weight = total_of(&cuts);
+    let base = i128::from(base);
+    let total = total_of(&cuts);
     Ok(Row::Best {
         edges: odd_ones(edges),
-        weight,
+        base,
+        weight: base + i128::from(total),
         cuts: printed_cuts(cuts),
     })
 }
@@ -69,6 +75,22 @@ fn push_walk(links: &Links, edges: &mut Vec<u32>, id: LinkId) -> Result<(), NoMe
         edges.push(step.edge)?;
     }
     Ok(())
+}
+
+/// The edges together with those that weigh less than 0 for the part's shot. An edge that lies in exactly one of the two
+/// occurs an odd number of times. With them, what all edges below 0 weigh together.
+fn with_negatives(half: &Half, mut edges: Vec<u32>) -> Result<(Vec<u32>, i64), NoMemory>
+    ensures parity { IfOk result (λ r. (test : ℕ → Bool) → is_odd_count test r.0.items
+        ≡ is_odd_count test (edges.items ++ (graph_in half.now).negatives)) }
+    ensures base { IfOk result (λ r. r.1 ≡ base_of half.now.job.graph (shot_of half.now)) }
+{
+    half.keeps();
+    let job = half.job();
+    job.keeps();
+    let slot = half.slot();
+    let shot = &job.shots()[slot as usize];
+    shot.add_negatives(job.graph(), &mut edges)?;
+    Ok((edges, shot.base(job.graph())))
 }
 
 /// The sum of the cuts' values.

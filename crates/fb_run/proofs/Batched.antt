@@ -68,9 +68,9 @@ counts-take tally now rows i row less is adds = subst (AddsCounts tally (tally_w
     (by_row row)
   where
     by_row : (r : Row) → AddsCounts tally (tally_with now r) (take i rows ++ r ∷ [])
-    by_row (Best edges weight cuts) = record {
-      best = omega (arith, adds.best, count_by-append is_best (take i rows) (Best edges weight cuts ∷ []));
-      odd = omega (arith, adds.odd, count_by-append is_odd (take i rows) (Best edges weight cuts ∷ []));
+    by_row (Best edges base weight cuts) = record {
+      best = omega (arith, adds.best, count_by-append is_best (take i rows) (Best edges base weight cuts ∷ []));
+      odd = omega (arith, adds.odd, count_by-append is_odd (take i rows) (Best edges base weight cuts ∷ []));
     }
     by_row (Odd v) = record {
       best = omega (arith, adds.best, count_by-append is_best (take i rows) (Odd v ∷ []));
@@ -104,7 +104,7 @@ places_later rows k within = All-weaker (λ v. v < (k + 1) + length rows) (λ v.
 
 places_within : (rows : List Row) (k : ℕ) → All (λ v. v < k + length rows) (best_places k rows)
 places_within [] k = All-nil (λ v. v < k + length (let none : List Row = [] in none))
-places_within (Best edges weight cuts ∷ rows) k =
+places_within (Best edges base weight cuts ∷ rows) k =
     All-cons (λ v. v < k + suc (length rows)) k (best_places (k + 1) rows) (omega arith) (places_later rows k (places_within rows (k + 1)))
 places_within (Odd v ∷ rows) k = places_later rows k (places_within rows (k + 1))
 

@@ -2,6 +2,7 @@ pub mod Emptied
 pub mod Batched
 pub mod Decoded
 pub mod Finishing
+pub mod LowWeights
 pub mod Sampled
 pub mod Answered
 pub mod Reread

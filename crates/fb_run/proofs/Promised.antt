@@ -2,15 +2,16 @@
 use Rattle.std.proofs.Common.{◌≡◌, ℕ, ◌≤◌, ◌⊎◌, Bool, true, List, [], ◌∷◌, ◌++◌, take, drop, Option, Some, None, refl, sym, ap, ◌∙◌, subst, inl, inr}
 use Rattle.std.proofs.lemmas.List.{take-append-drop}
 use Rattle.std.specs.List.{All, AllZip, flat_map}
-use Rattle.std.proofs.lemmas.List.Elements.{All-nil, All-cons}
+use Rattle.std.proofs.lemmas.List.Elements.{All-nil, All-cons, All-head, All-tail}
 use Rattle.fb_crew.specs.Windows.{AreRows, IsHistoryOf, IsShotRow}
 use Rattle.fb_endings.specs.Ends.{EndsAtFile, EndsInText, IsGraphRefusal, IsPlanRefusal, IsReadToItsEnd}
 use Rattle.fb_endings.specs.TextEnds.{Account, Source, TextEnds, WritesWhole, whole_text}
 use Rattle.fb_endings.specs.declared.ending.Cause.{Cause}
 use Rattle.fb_endings.specs.declared.ending.Cause.TheVariants.{Done, Odd, Bad, Refused, ReadFault, WriteFault, NoMemory, Usage}
 use Rattle.fb_endings.specs.declared.ending.Refusal.{Refusal}
-use Rattle.fb_graph.specs.Laws.{LeastWeight, NoCorrection}
-use Rattle.fb_graph.specs.Limits.{DecodingGraph, ShotValue}
+use Rattle.fb_graph.specs.Answers.{BestWeighsLeast}
+use Rattle.fb_graph.specs.Laws.{NoCorrection}
+use Rattle.fb_graph.specs.Limits.{DecodingGraph, IsGraph, IsShot, ShotValue}
 use Rattle.fb_graph.specs.declared.parts.Row.{Row}
 use Rattle.fb_graph.specs.declared.parts.Row.TheVariants as row
 use Rattle.fb_inputs.specs.Judging.{HasShots, Holds, IsGraphText, IsPlanText, Named}
@@ -68,23 +69,26 @@ all_zip-append R [] us (y ∷ ys) vs first second = absurd first
 all_zip-append R (x ∷ xs) us [] vs first second = absurd first
 all_zip-append R (x ∷ xs) us (y ∷ ys) vs first second = (first.0, all_zip-append R xs us ys vs first.1 second)
 
-module _ (least : LeastWeight) (none : NoCorrection) where
+module _ (least : BestWeighsLeast) (none : NoCorrection) where
   -- a right row explains its shot
-  explained : (g : DecodingGraph) (shot : ShotValue) (r : Row) → IsShotRow g shot r → Explains g shot r
-  explained g shot (row.Best edges weight cuts) right = record {
+  explained : (g : DecodingGraph) (shot : ShotValue) (r : Row) → IsGraph g → IsShot g shot → IsShotRow g shot r → Explains g shot r
+  explained g shot (row.Best edges base weight cuts) graph is right = record {
     edge_set = right.1.edge_set;
     flips = right.1.flips;
     weighs = right.1.weighs;
-    least = least _ edges weight cuts right.1;
+    least = least g shot edges base weight cuts graph is right.1;
   }
-  explained g shot (row.Odd v) right = λ other is flips. none _ v right.0 other is.within flips
+  explained g shot (row.Odd v) graph is right = λ other is flips. none _ v right.0 other is.within flips
 
-  all_explained : (g : DecodingGraph) (shots : List ShotValue) (rows : List Row) → AreRows g shots rows
-      → AllZip (Explains g) shots rows
-  all_explained g [] [] right = right
-  all_explained g [] (r ∷ rs) right = absurd right
-  all_explained g (s ∷ ss) [] right = absurd right
-  all_explained g (s ∷ ss) (r ∷ rs) right = (explained g s r right.0, all_explained g ss rs right.1)
+  all_explained : (g : DecodingGraph) (shots : List ShotValue) (rows : List Row) → IsGraph g → All (IsShot g) shots
+      → AreRows g shots rows → AllZip (Explains g) shots rows
+  all_explained g [] [] graph each right = right
+  all_explained g [] (r ∷ rs) graph each right = absurd right
+  all_explained g (s ∷ ss) [] graph each right = absurd right
+  all_explained g (s ∷ ss) (r ∷ rs) graph each right = (
+    explained g s r graph (All-head (IsShot g) s ss each) right.0,
+    all_explained g ss rs graph (All-tail (IsShot g) s ss each) right.1,
+  )
 
   -- the rows of all batches, one after another
   rows_explained : (request : Decoding) (g : DecodingGraph) (t : PlanTree) (shots : List ShotValue) (bs : List Batch)
@@ -93,7 +97,7 @@ module _ (least : LeastWeight) (none : NoCorrection) where
   rows_explained request g t shots (b ∷ bs) are =
       subst (λ ss. AllZip (Explains g) ss (b.rows ++ all_rows bs)) (take-append-drop request.window shots)
       (all_zip-append (Explains g) (take request.window shots) (drop request.window shots) b.rows (all_rows bs)
-      (all_explained g (take request.window shots) b.rows are.1.rows)
+      (all_explained g (take request.window shots) b.rows are.1.is_graph are.1.of_graph are.1.rows)
       (rows_explained request g t (drop request.window shots) bs are.2))
 
 histories_of : (request : Decoding) (g : DecodingGraph) (t : PlanTree) (shots : List ShotValue) (bs : List Batch)
@@ -104,7 +108,7 @@ histories_of request g t shots (b ∷ bs) are traced =
     All-cons (λ (b : Batch). IsHistoryOf t request.workers b.rows b.history) b bs (are.1.history traced)
     (histories_of request g t (drop request.window shots) bs are.2 traced)
 
-module _ (least : LeastWeight) (none : NoCorrection) (request : Decoding) (cause : Cause) (whole : IsReadToItsEnd cause) where
+module _ (least : BestWeighsLeast) (none : NoCorrection) (request : Decoding) (cause : Cause) (whole : IsReadToItsEnd cause) where
   abbrev Reported : Named → Moment → Moment → DecodingGraph → PlanTree → Type 0
   Reported named before after g t = (old : List ℕ) → before.written ≡ Some old → Holds named request.graph (IsGraphText g)
       → IsPlanAsked request.plan named g t → (text : List ℕ) × (after.written ≡ Some (old ++ text)) × IsReportOf request named text
@@ -157,6 +161,6 @@ module _ (least : LeastWeight) (none : NoCorrection) (request : Decoding) (cause
       by_plan before.named ends.read after ends.g ends.graph.named request.plan refl ends.ends old (ends.graph.written ∙ at)
       ends.graph.text
 
-pub decodes_right : LeastWeight → NoCorrection → DecodesRight
+pub decodes_right : BestWeighsLeast → NoCorrection → DecodesRight
 decodes_right least none request before after cause old ends whole at =
     decoded least none request cause whole before after ends old at

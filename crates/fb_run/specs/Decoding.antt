@@ -1,11 +1,11 @@
 -- What a decode writes: the rows of the shots, batch by batch, between the head and the last line.
-use Rattle.std.specs.Prelude.{ℕ, ◌≡◌, ◌≢◌, ◌+◌, ◌*◌, ◌==◌, if◌then◌else◌, Bool, true, false, List, [], ◌∷◌, ◌++◌, length, take, drop}
+use Rattle.std.specs.Prelude.{ℕ, ◌≡◌, ◌≢◌, ◌+◌, ◌*◌, ◌==◌, if◌then◌else◌, Bool, true, false, List, [], ◌∷◌, ◌++◌, length, take, drop, All}
 use Rattle.std.specs.List.{flat_map}
 use Rattle.fb_book.specs.declared.entries.Entry.{Entry}
 use Rattle.fb_book.specs.declared.entries.Kind.{Kind}
 use Rattle.fb_book.specs.declared.entries.Kind.TheVariants.{Took, Gave, Left}
 use Rattle.fb_crew.specs.Windows.{AreRows, IsHistoryOf}
-use Rattle.fb_graph.specs.Limits.{DecodingGraph, ShotValue}
+use Rattle.fb_graph.specs.Limits.{DecodingGraph, IsGraph, IsShot, ShotValue}
 use Rattle.fb_graph.specs.declared.parts.Row.{Row}
 use Rattle.fb_plan.specs.Plans.{PlanTree}
 use Rattle.fb_report.specs.Texts.{rows_text, trace_line, done_text}
@@ -46,8 +46,10 @@ batches_text trace first (b ∷ bs) = batch_text trace first b ++ batches_text t
 abbrev pub all_rows : List Batch → List Row
 all_rows bs = flat_map (λ b. b.rows) bs
 
--- The rows of these shots. If the history is wanted, it says how the rows were made.
+-- The rows of these shots, which are shots of the graph. If the history is wanted, it says how the rows were made.
 pub record AnswersBatch (request : Decoding) (g : DecodingGraph) (t : PlanTree) (shots : List ShotValue) (b : Batch) : Type 0 where
+  pub is_graph : IsGraph g
+  pub of_graph : All (IsShot g) shots
   pub rows : AreRows g shots b.rows
   pub history : request.trace ≡ true → IsHistoryOf t request.workers b.rows b.history
 

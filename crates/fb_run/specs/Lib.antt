@@ -7,5 +7,6 @@ pub mod Samples
 pub mod SampleEndings
 pub mod RunEndings
 pub mod InternalBatches
+pub mod InternalSums
 pub mod ReadBack
 pub mod Promise

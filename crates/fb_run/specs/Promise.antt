@@ -1,13 +1,14 @@
 -- What a decode that came to its end has written, in the words of the problem alone: each row is a correction than which
 -- none is lighter, or says that there is none.
-use Rattle.std.specs.Prelude.{ℕ, ◌≡◌, ◌≤◌, true, List, ◌++◌, Option, Some, None}
+use Rattle.std.specs.Prelude.{ℕ, ℤ, ◌≡◌, ◌≤ℤ◌, true, List, ◌++◌, Option, Some, None}
 use Rattle.std.specs.List.{All, AllZip}
 use Rattle.fb_crew.specs.Windows.{IsHistoryOf}
 use Rattle.fb_endings.specs.Ends.{IsReadToItsEnd}
 use Rattle.fb_endings.specs.declared.ending.Cause.{Cause}
 use Rattle.fb_graph.specs.Limits.{DecodingGraph, ShotValue}
-use Rattle.fb_graph.specs.Problem.{Problem, Flips, IsEdgeSet, weight_of}
+use Rattle.fb_graph.specs.Problem.{Flips, IsEdgeSet}
 use Rattle.fb_graph.specs.ShotGraphs.{shot_problem}
+use Rattle.fb_graph.specs.Signs.{signed_weight_of}
 use Rattle.fb_graph.specs.declared.parts.Row.{Row}
 use Rattle.fb_graph.specs.declared.parts.Row.TheVariants.{Best, Odd}
 use Rattle.fb_inputs.specs.Judging.{HasShots, Holds, IsGraphText, IsPlanText, Named}
@@ -19,16 +20,17 @@ use Rattle.fb_run.specs.Decoding.{Batch, all_rows, batches_text, last_line_of}
 use Rattle.fb_run.specs.RunEndings.{RequestEnds}
 use Rattle.fb_shots.specs.Shots.{at_end}
 
--- the edges are a correction of this weight, and no correction weighs less
-pub record IsLightest (p : Problem) (edges : List ℕ) (weight : ℕ) : Type 0 where
-  pub edge_set : IsEdgeSet p edges
-  pub flips : Flips p edges
-  pub weighs : weight ≡ weight_of p edges
-  pub least : (other : List ℕ) → IsEdgeSet p other → Flips p other → weight ≤ weight_of p other
+-- the edges are a correction of the shot of this weight, and no correction weighs less
+pub record IsLightest (g : DecodingGraph) (shot : ShotValue) (edges : List ℕ) (weight : ℤ) : Type 0 where
+  pub edge_set : IsEdgeSet (shot_problem g shot) edges
+  pub flips : Flips (shot_problem g shot) edges
+  pub weighs : weight ≡ signed_weight_of g shot edges
+  pub least : (other : List ℕ) → IsEdgeSet (shot_problem g shot) other → Flips (shot_problem g shot) other
+      → weight ≤ℤ signed_weight_of g shot other
 
 -- the row is a lightest correction of the shot, or says that it has none
 abbrev pub Explains : DecodingGraph → ShotValue → Row → Type 0
-Explains g shot (Best edges weight cuts) = IsLightest (shot_problem g shot) edges weight
+Explains g shot (Best edges base weight cuts) = IsLightest g shot edges weight
 Explains g shot (Odd v) = (other : List ℕ) → IsEdgeSet (shot_problem g shot) other → ¬ Flips (shot_problem g shot) other
 
 -- the plan that was asked for: that of the named file, or of one unit if none is named

@@ -10,6 +10,7 @@ use Rattle.fb_run.specs.Endings.{decode_account}
 use Rattle.fb_run.specs.Rows.{counts_of}
 use Rattle.fb_verify.specs.ReadBack.{Event, IsReportInRange, TracedRow, report_with}
 use Rattle.fb_verify.specs.Reports.{report_in}
+use Rattle.fb_verify.specs.declared.reports.Version.TheVariants.{Two}
 use Rattle.fb_request.specs.Requests.{Decoding}
 
 -- the event of an entry of a batch whose first shot has this number
@@ -46,5 +47,5 @@ abbrev pub ReadsBackReport : Type 0
 ReadsBackReport =
     (request : Decoding) (g : DecodingGraph) (t : PlanTree) (shots : List ShotValue) (bs : List Batch)
     → AreBatches request g t shots bs
-    → IsReportInRange (traced_rows request.trace 0 bs) (units_of t bs) (fusions_of t bs)
+    → IsReportInRange Two (traced_rows request.trace 0 bs) (units_of t bs) (fusions_of t bs)
     → report_in (whole_text (decode_account request g t) shots bs) ≡ Ok (report_with (all_rows bs) (units_of t bs) (fusions_of t bs))

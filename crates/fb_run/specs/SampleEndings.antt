@@ -1,5 +1,5 @@
 -- How a sample ends.
-use Rattle.std.specs.Prelude.{ℕ, ◌≡◌, ◌⊎◌, List, [], Option, Ok, Err}
+use Rattle.std.specs.Prelude.{ℕ, ℤ, ◌≡◌, ◌⊎◌, List, [], Option, Ok, Err}
 use Rattle.fb_endings.specs.declared.ending.Cause.{Cause}
 use Rattle.fb_endings.specs.declared.ending.Cause.TheVariants.{Done, Odd, Bad, Refused, ReadFault, WriteFault, NoMemory, Usage}
 use Rattle.fb_endings.specs.declared.ending.Refusal.{Refusal}
@@ -18,7 +18,7 @@ pub record IsSampleText (s : Sampling) (text : List ℕ) : Type 0 where
   pub graph : DecodingGraph
   pub plan : PlanTree
   pub defects : ℕ
-  pub weight : ℕ
+  pub weight : ℤ
   pub lattice : lattice_of s.distance s.rounds ≡ Ok graph
   pub by_time : time_plan_of s.distance s.rounds s.units ≡ Ok plan
   pub sums : HaveSums graph s.rate s.start s.shots defects weight

@@ -1,5 +1,6 @@
 -- What a sample draws, and the text that it writes.
-use Rattle.std.specs.Prelude.{◌≡◌, ℕ, zero, suc, ◌*◌, List, [], ◌∷◌, ◌++◌, length, codes, decimal, sum_by}
+use Rattle.std.specs.Prelude.{◌≡◌, ℕ, zero, suc, ◌*◌, ℤ, pos, ◌+ℤ◌, List, [], ◌∷◌, ◌++◌, length, codes, decimal, sum_by}
+use Rattle.std.specs.Fmt.{signed_decimal}
 use Rattle.fb_crew.specs.Windows.{AreRows}
 use Rattle.fb_gen.specs.Drawing.{hits_of, shot_from, state_after}
 use Rattle.fb_graph.specs.Limits.{DecodingGraph, ShotValue}
@@ -21,16 +22,17 @@ abbrev pub defects_in : List ShotValue → ℕ
 defects_in shots = sum_by (λ shot. length shot.defects) shots
 
 -- the weight of a row's correction
-abbrev pub weight_in : Row → ℕ
-weight_in (Best edges weight cuts) = weight
-weight_in (Odd v) = 0
+abbrev pub weight_in : Row → ℤ
+weight_in (Best edges base weight cuts) = weight
+weight_in (Odd v) = pos 0
 
 -- the weight of all corrections
-abbrev pub weights_in : List Row → ℕ
-weights_in rows = sum_by weight_in rows
+abbrev pub weights_in : List Row → ℤ
+weights_in [] = pos 0
+weights_in (r ∷ rs) = weight_in r +ℤ weights_in rs
 
 -- `count` drawn shots have these many defects, and their corrections this weight
-pub record HaveSums (g : DecodingGraph) (rate start count defects weight : ℕ) : Type 0 where
+pub record HaveSums (g : DecodingGraph) (rate start count defects : ℕ) (weight : ℤ) : Type 0 where
   pub rows : List Row
   pub decoded : AreRows g (drawn_shots g rate start count) rows
   pub defects_of : defects ≡ defects_in (drawn_shots g rate start count)
@@ -47,16 +49,16 @@ sizes_line s =
     ∷ codes "rate" ∷ decimal s.rate ∷ codes "start" ∷ decimal s.start ∷ [])
 
 -- the line of the shots, their defects, and the weight of their corrections
-unfoldable pub sums_line : (shots defects weight : ℕ) → List ℕ
+unfoldable pub sums_line : (shots defects : ℕ) (weight : ℤ) → List ℕ
 sums_line shots defects weight =
-    line (codes "shots") (decimal shots ∷ codes "defects" ∷ decimal defects ∷ codes "weight" ∷ decimal weight ∷ [])
+    line (codes "shots") (decimal shots ∷ codes "defects" ∷ decimal defects ∷ codes "weight" ∷ signed_decimal weight ∷ [])
 
 -- the last line: the numbers of units and of fusions that were solved
 unfoldable pub work_line : (units fusions : ℕ) → List ℕ
 work_line units fusions = line (codes "done") (codes "units" ∷ decimal units ∷ codes "fusions" ∷ decimal fusions ∷ [])
 
 -- the whole text of a sample, by the plan, the number of defects and the weight of the corrections
-unfoldable pub sample_text : Sampling → PlanTree → (defects weight : ℕ) → List ℕ
+unfoldable pub sample_text : Sampling → PlanTree → (defects : ℕ) (weight : ℤ) → List ℕ
 sample_text s t defects weight =
     sample_head
     ++ (sizes_line s

@@ -1,8 +1,8 @@
 //! The shots of a file, decoded batch by batch.
 
-ghost use Rattle.std.specs.Prelude.{◌≡◌, ◌+◌, ◌++◌, ◌^◌, ◌<◌, ◌≤◌, ◌==◌, [], true, length, replicate, All, Some, IfOk, OnOk, OnErr, Err};
+ghost use Rattle.std.specs.Prelude.{◌≡◌, ◌+◌, ◌++◌, ◌^◌, ◌<◌, ◌≤◌, ◌==◌, [], true, pos, length, replicate, All, Some, IfOk, OnOk, OnErr, Err};
 ghost use Rattle.std.specs.List.{list_all};
-ghost use Rattle.fb_graph.specs.Limits.{IsShot};
+ghost use Rattle.fb_graph.specs.Limits.{IsGraph, IsShot};
 ghost use Rattle.fb_ports.specs.Causes.{Appends, AppendsPrefix, CountsFault};
 ghost use Rattle.fb_shots.specs.Steps.{IsReadOut};
 ghost use Rattle.fb_shots.specs.Streams.{fresh};
@@ -12,7 +12,7 @@ ghost use Rattle.fb_report.specs.Texts.{rows_text};
 ghost use Rattle.fb_crew.specs.Windows.{AreRows, IsHistoryOf};
 ghost use Rattle.fb_book.specs.declared.limits.TheConstants.{MOST_AT_ONCE};
 ghost use Rattle.fb_run.specs.Decoding.{batch_text, cause_of, events_text};
-ghost use Rattle.fb_run.specs.InternalBatches.{AddsCounts, TakesBatch, batch_in};
+ghost use Rattle.fb_run.specs.InternalBatches.{AddsCounts, TakesBatch, batch_in, has_nothing};
 ghost use Rattle.fb_run.specs.InternalWrites.{WritesBatches, WritesFirstBatches, counts_in, tally_with};
 ghost use Rattle.fb_request.specs.PlainRequests.{plain_decoding};
 
@@ -203,7 +203,7 @@ fn next_batch<F: Files, G: Gate, R: Threads + Sync>(
 }
 
 /// The rows of a batch of shots, and if the history is wanted, how they were made. If it isn't, shots without a defect
-/// need no worker.
+/// and without an edge of negative weight need no worker.
 fn solve_batch<G: Gate, R: Threads + Sync>(
     rt: &R,
     alloc: Global,
@@ -217,28 +217,35 @@ fn solve_batch<G: Gate, R: Threads + Sync>(
     ensures rows { IfOk result (λ w. AreRows crew.old.graph shots.now w.rows.items) }
     ensures history { trace ≡ true → IfOk result (λ w. IsHistoryOf crew.old.plan crew.old.workers w.rows.items w.history.items) }
     ensures same { crew.new ≡ crew.old }
+    ensures graph { IsGraph crew.old.graph }
 {
-    if !trace && are_empty(shots) {
+    let graph = crew.graph();
+    graph.limits();
+    if !trace && are_empty(graph, shots) {
         return empty_rows(alloc, shots.len());
     }
     crew.decode_window(rt, alloc, shots, gate)
 }
 
-/// Whether none of the shots has a defect.
-fn are_empty(shots: &[Shot]) -> bool
-    ensures { result ≡ list_all (λ s. length s.defects == 0) shots.now }
+/// Whether none of the shots has a defect, nor an edge of negative weight.
+fn are_empty(graph: &Graph, shots: &[Shot]) -> bool
+    requires { All (IsShot graph.now) shots.now }
+    ensures { result ≡ list_all (has_nothing graph.now) shots.now }
 {
-    shots.iter().all(|shot| shot.is_empty())
+    shots
+        .iter()
+        .all(|shot| shot.is_empty() && shot.base(graph) == 0)
 }
 
-/// The rows of `count` shots without a defect.
+/// The rows of `count` shots without a defect and without an edge of negative weight.
 fn empty_rows(alloc: Global, count: usize) -> Result<Window, NoMemory>
-    ensures { IfOk result (λ w. w.rows.items ≡ replicate count (Row.Best [] 0 [])) }
+    ensures { IfOk result (λ w. w.rows.items ≡ replicate count (Row.Best [] (pos 0) (pos 0) [])) }
 {
     let mut rows = Vec::with_capacity(alloc, count)?;
     for _ in 0..count {
         rows.push(Row::Best {
             edges: NumberList::from_vec(Vec::new(alloc)),
+            base: 0,
             weight: 0,
             cuts: CutList::from_vec(Vec::new(alloc)),
         })?;

@@ -24,6 +24,6 @@ pub fn limits_of_crews()
 pub fn decodes_right()
     ensures { DecodesRight }
 {
-    fb_graph::least_weight();
+    fb_graph::laws::best_corrections();
     fb_graph::odd_has_no_correction();
 }

@@ -16,7 +16,7 @@ use std::alloc::Global;
 #[derive(Clone, Copy, Debug, PartialEq, Eq)]
 pub struct Sums {
     pub defects: u64,
-    pub weight: u128,
+    pub weight: i128,
 }
 
 /// Writes the text of a sample that was decoded by the plan. Where memory is wanting nothing is written; after a write

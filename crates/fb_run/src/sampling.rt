@@ -1,6 +1,6 @@
 //! The command `sample`.
 
-ghost use Rattle.std.specs.Prelude.{◌≡◌, ◌+◌, ◌*◌, ◌^◌, ◌<◌, ◌≤◌, length, All, IfOk, OnOk, Ok};
+ghost use Rattle.std.specs.Prelude.{◌≡◌, ◌+◌, ◌*◌, ◌^◌, ◌<◌, ◌≤◌, ◌+ℤ◌, length, All, IfOk, OnOk, Ok};
 ghost use Rattle.fb_book.specs.declared.limits.TheConstants.{MOST_AT_ONCE};
 ghost use Rattle.fb_gen.specs.Drawing.{state_after};
 ghost use Rattle.fb_gen.specs.Lattice.{lattice_of};
@@ -10,6 +10,7 @@ ghost use Rattle.fb_plan.specs.Plans.{IsPlan};
 ghost use Rattle.fb_ports.specs.Causes.{CountsFault};
 ghost use Rattle.fb_run.specs.SampleEndings.{SampleEnds};
 ghost use Rattle.fb_run.specs.InternalCauses.{cause_of_sample};
+ghost use Rattle.fb_run.specs.InternalSums.{HasLowWeight, IsLow};
 ghost use Rattle.fb_run.specs.Samples.{HaveSums, defects_in, drawn_shots, weight_in, weights_in};
 ghost use Rattle.fb_request.specs.PlainRequests.{plain_sampling};
 ghost use Rattle.fb_request.specs.Requests.{IsSampleInRanges};
@@ -141,6 +142,7 @@ fn sample_with<G: Gate, R: Threads + Sync>(
     requires ranges { IsSampleInRanges (plain_sampling request.now) }
     ensures { IfOk result (λ sums. HaveSums graph.now request.now.rate request.now.start request.now.shots sums.defects sums.weight) }
 {
+    graph.limits();
     let mut draws = Draws::new(request.start);
     let mut sums = Sums {
         defects: 0,
@@ -182,12 +184,13 @@ impl Sums {
     fn with_window(self, shots: &[Shot], rows: &[Row]) -> Sums
         requires shots { length shots.now ≤ MOST_AT_ONCE }
         requires rows { length rows.now ≤ MOST_AT_ONCE }
+        requires low { All HasLowWeight rows.now }
         requires defects { self.defects ≤ 2 ^ 60 }
-        requires weight { self.weight ≤ 2 ^ 100 }
+        requires weight { IsLow (2 ^ 100) self.weight }
         ensures defects { result.defects ≡ self.defects + defects_in shots.now }
-        ensures weight { result.weight ≡ self.weight + weights_in rows.now }
+        ensures weight { result.weight ≡ self.weight +ℤ weights_in rows.now }
         ensures few_defects { result.defects ≤ self.defects + most_vertices * length shots.now }
-        ensures low_weight { result.weight ≤ self.weight + 2 ^ 64 * length rows.now }
+        ensures low_weight { IsLow (2 ^ 64 * length rows.now) (weights_in rows.now) }
     {
         Sums {
             defects: self.defects + count_defects(shots),
@@ -210,20 +213,21 @@ fn count_defects(shots: &[Shot]) -> u64
 }
 
 /// What the corrections of rows weigh.
-fn add_weights(rows: &[Row]) -> u128
-    requires { length rows.now ≤ MOST_AT_ONCE }
+fn add_weights(rows: &[Row]) -> i128
+    requires few { length rows.now ≤ MOST_AT_ONCE }
+    requires low { All HasLowWeight rows.now }
     ensures sum { result ≡ weights_in rows.now }
-    ensures limit { result ≤ 2 ^ 64 * length rows.now }
+    ensures limit { IsLow (2 ^ 64 * length rows.now) result }
 {
     let mut sum = 0;
     for row in rows {
-        sum += u128::from(weight_of(row));
+        sum += weight_of(row);
     }
     sum
 }
 
 /// What the correction of a row weighs.
-fn weight_of(row: &Row) -> u64
+fn weight_of(row: &Row) -> i128
     ensures { result ≡ weight_in row.now }
 {
     match row {

@@ -29,7 +29,7 @@ all_even p s state zero d name leaf under open_name = by (cases_eq name s.root)
         state.search.search.parity d name leaf under (ap (is_in (tree_names s.root s.tree)) same ∙ root_in_tree s.root s.tree)
         ∙ zero
     by (inr other) =
-        state.search.search.even d name leaf under
+        state.search.even d name leaf under
         (is_in-filter (λ x. not (x == s.root)) s.unmatched name
         ∙ and_from (is_in s.unmatched name) (not (name == s.root)) open_name (ap not (ne_eqb name s.root other)))
 

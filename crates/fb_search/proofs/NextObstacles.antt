@@ -16,7 +16,7 @@ use Rattle.fb_laws.proofs.JoinedThree.{root_plus}
 use Rattle.fb_laws.proofs.SearchTrees.{cover_place, plus_in_tree}
 use Rattle.fb_plan.specs.Plans.{PlanTree, problem_at}
 use Rattle.fb_trees.proofs.Mapped as mapped
-use Rattle.fb_half.specs.Parts.{graph_in, shot_of}
+use Rattle.fb_half.specs.Parts.{graph_in, solved_shot}
 use Rattle.fb_half.specs.Translations.{link_by}
 use Rattle.fb_obstacles.specs.declared.obstacle.Obstacle.{Obstacle}
 use Rattle.fb_obstacles.specs.Obstacles.{HavePlusParity, IsObstacle, IsWatched, ListsMinus, Obstructs, slack_at}
@@ -87,7 +87,7 @@ module _ (w : SearchValue) (are : IsSearching w) where
     next_is o is =
         let there : IsObstacle (problem_at (graph_in w.part) w.part.job.plan w.part.node no_shot) (roles_in w) w.part.nodes o =
         subst (λ h. IsObstacle (problem_at h w.part.job.plan w.part.node no_shot) (roles_in w) w.part.nodes o) eg (rw (← et, ← en) is) in
-        obstacle_exchanged (problem_at (graph_in w.part) w.part.job.plan w.part.node no_shot) (is_in (shot_of w.part).defects) (roles_in w)
+        obstacle_exchanged (problem_at (graph_in w.part) w.part.job.plan w.part.node no_shot) (is_in (solved_shot w.part).defects) (roles_in w)
         w.part.nodes o there
 
     next_stands : (o : Obstacle) → Obstructs (problem_at g t n no_shot) (roles_in w) w.part.nodes o
@@ -95,7 +95,7 @@ module _ (w : SearchValue) (are : IsSearching w) where
     next_stands o is =
         let there : Obstructs (problem_at (graph_in w.part) w.part.job.plan w.part.node no_shot) (roles_in w) w.part.nodes o =
         subst (λ h. Obstructs (problem_at h w.part.job.plan w.part.node no_shot) (roles_in w) w.part.nodes o) eg (rw (← et, ← en) is) in
-        obstructs_exchanged (problem_at (graph_in w.part) w.part.job.plan w.part.node no_shot) (is_in (shot_of w.part).defects) (roles_in w)
+        obstructs_exchanged (problem_at (graph_in w.part) w.part.job.plan w.part.node no_shot) (is_in (solved_shot w.part).defects) (roles_in w)
         w.part.nodes o there
 
     pub next_limiting : (N : Type 0) (found : Option Obstacle)

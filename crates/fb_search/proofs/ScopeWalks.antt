@@ -15,7 +15,7 @@ use Rattle.fb_links.specs.declared.walk.Step.{Step}
 use Rattle.fb_plan.specs.Plans.{problem_at}
 use Rattle.fb_plan.specs.declared.scope.NodeScope.{NodeScope}
 use Rattle.fb_plan.specs.Scopes.{scope_problem}
-use Rattle.fb_half.specs.Parts.{AreStepsOf, PartValue, graph_in, problem_in, shot_of}
+use Rattle.fb_half.specs.Parts.{AreStepsOf, PartValue, graph_in, problem_in, solved_shot}
 use Rattle.fb_half.specs.Translations.{link_of}
 use Rattle.fb_half.specs.Values.{IsScopeOf}
 use Rattle.fb_trees.specs.InternalMetWalks.{IsBetween, IsMetWalk, IsOut, IsOutWalk, IsRealStep, IsTightWalk}
@@ -109,7 +109,7 @@ module _ (w : PartValue) (s : NodeScope) (own : IsScopeOf s w) where
       → ((a b : ℕ) → IsBetween (scoped s) w.nodes k a b → IsMetWalk (scoped s) w.nodes a b walk)
       → IsMetWalk (problem_in w) w.nodes a b walk
   met_bare k a b walk is walks =
-      met_with bare_problem (shot_of w).defects w.nodes a b walk
+      met_with bare_problem (solved_shot w).defects w.nodes a b walk
       (subst (λ p. IsMetWalk p w.nodes a b walk) scope_is (walks a b (between_bare k a b is)))
 
   -- the walk that the code makes over the scope
@@ -137,5 +137,5 @@ module _ (w : PartValue) (s : NodeScope) (own : IsScopeOf s w) where
       → ((a v : ℕ) → IsOut (scoped s) w.nodes k a v → IsOutWalk (scoped s) w.nodes a v walk)
       → IsOutWalk (problem_in w) w.nodes a v walk
   out_scoped k a v walk is walks =
-      out_with bare_problem (shot_of w).defects w.nodes a v walk
+      out_with bare_problem (solved_shot w).defects w.nodes a v walk
       (subst (λ p. IsOutWalk p w.nodes a v walk) scope_is (walks a v (out_bare k a v is)))

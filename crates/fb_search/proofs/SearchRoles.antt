@@ -89,7 +89,8 @@ module _ (w : SearchValue) (are : IsSearching w) where
   -- no sub-problem of a shot that has a correction has an odd closed set
   pub no_odd_closed : HasNoOddClosed (problem_of w)
   no_odd_closed =
-      shot_even w.part.job.graph w.part.job.plan w.part.node (shot_of w.part) (are.job.even w.part.slot no_shot are.slot)
+      shot_even w.part.job.graph w.part.job.plan w.part.node (shot_of w.part) are.job.graph (are.job.shots w.part.slot no_shot are.slot)
+      (are.job.even w.part.slot no_shot are.slot)
 
   -- an edge leaves each live node
   pub crossed : (name : ℕ) → is_live w.part.nodes name ≡ true → IsCrossed (problem_of w) (top_at w.part.nodes name)

@@ -10,8 +10,8 @@ use fb_search::{Scratch, search_each_from};
 use std::alloc::Global;
 use std::sync::ledger::Ledger;
 
-/// The solved part of a unit: a search from each of its defects that is still unmatched, in rising order of vertices.
-/// Counts a step for each search: at least one for every two defects, and at most one for each.
+/// The solved part of a unit: a search from each of its shifted defects that is still unmatched, in rising order of
+/// vertices. Counts a step for each search: at least one for every two of these defects, and at most one for each.
 pub fn solve_unit<'a, L: Ledger>(
     alloc: Global,
     job: &'a Job<'a>,

@@ -55,7 +55,13 @@ no_odd_part : HasNoOddClosed long_line
 no_odd_part = no_odd_closed_by long_line (0 ∷ 3 ∷ []) (below_by_cases 5 (0 ∷ 3 ∷ []) refl) long_flips
 
 thin_state : IsNestedSearch long_line thin_nodes (thin_branch ∷ []) [] (0 ∷ []) 0 0
-thin_state = record { nest = thin_nest; search = thin_search; walks = thin_walks; outer = thin_outer }
+thin_state = record {
+  nest = thin_nest;
+  search = thin_search;
+  even = λ d name leaf cover among. absurd (false≢true among);
+  walks = thin_walks;
+  outer = thin_outer;
+}
 
 given_state : IsNestedSearch long_line (uncovered_nodes 1 thin_nodes) (thin_branch ∷ []) [] (0 ∷ []) 0 0
 given_state = nested_uncovered long_line thin_nodes (thin_branch ∷ []) [] (0 ∷ []) 0 0 1 may_thin thin_state
@@ -180,6 +186,7 @@ nested_witness = (
   record {
     nest = closed_nest;
     search = splitting_witness.0;
+    even = λ d name leaf cover among. absurd (false≢true among);
     walks = closed_walks;
     outer =
         is_in-All (λ n. is_outer (joined_nodes 5 (0 ∷ 1 ∷ 2 ∷ []) two_tailed_nodes) n ≡ true) (4 ∷ [])
@@ -210,8 +217,8 @@ two_open = record {
     joined = tt;
     grown = no_links (line (1 ∷ 2 ∷ [])) pair_nodes;
     parity = λ d name leaf cover among. pair_heights d leaf;
-    even = λ d name leaf cover among. pair_heights d leaf;
   };
+  even = λ d name leaf cover among. pair_heights d leaf;
   walks = walks_begin (line (1 ∷ 2 ∷ [])) pair_singles;
   outer = λ n among. all_outer pair_singles n;
 }
@@ -227,8 +234,8 @@ one_open = record {
     joined = tt;
     grown = no_links (line (1 ∷ 2 ∷ [])) pair_nodes;
     parity = λ d name leaf cover among. pair_heights d leaf;
-    even = λ d name leaf cover among. pair_heights d leaf;
   };
+  even = λ d name leaf cover among. pair_heights d leaf;
   walks = walks_begin (line (1 ∷ 2 ∷ [])) pair_singles;
   outer = λ n among. all_outer pair_singles n;
 }
@@ -242,6 +249,7 @@ chain_state : (tree : List Entry) (rest : List Link)
 chain_state tree rest search = record {
   nest = chain_nest;
   search = search;
+  even = λ d name leaf cover among. absurd (false≢true among);
   walks = walks_begin (line (1 ∷ 2 ∷ 3 ∷ [])) chain_singles;
   outer = λ n among. all_outer chain_singles n;
 }

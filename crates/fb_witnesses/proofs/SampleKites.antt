@@ -204,7 +204,6 @@ kite_search = record {
   joined = (refl, inl (refl, refl), inl (refl, refl), tt);
   grown = tree_link;
   parity = λ d name leaf cover among. heights d leaf;
-  even = λ d name leaf cover among. absurd (false≢true among);
 }
 
 pub opened_witness : OpenedWitness

@@ -112,7 +112,6 @@ chain_begins = record {
     at_defects = All-nil AtDefects;
   };
   parity = λ d name leaf cover among. even_heights d leaf;
-  even = λ d name leaf cover among. even_heights d leaf;
 }
 
 even_line : AreEven (line (1 ∷ 2 ∷ 3 ∷ []))

@@ -16,7 +16,7 @@ use Rattle.fb_graph.proofs.Duality.{odd-crosses}
 use Rattle.fb_graph.specs.Steps.{Roles, AreExclusive, gains, losses, MayStep, stepped_nodes}
 use Rattle.fb_laws.specs.Lengths.{IsGreatestStep}
 use Rattle.fb_graph.specs.Covers.{AreRoles, PassOuterOnly, HasNoObstacle, IsClear}
-use Rattle.fb_laws.specs.Signed.{shifted_problem}
+use Rattle.fb_graph.specs.Signed.{shifted_problem}
 use Rattle.fb_graph.specs.Ends.{ends_in}
 use Rattle.fb_laws.specs.Paths.{IsWhole}
 use Rattle.fb_laws.specs.Blossoms.{IsInside}

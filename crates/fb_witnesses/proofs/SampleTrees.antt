@@ -87,12 +87,7 @@ one_search p nodes tree rest root r dual defects links matched heights root_is n
   joined = joined;
   grown = grown;
   parity = λ d name leaf cover among. heights d leaf;
-  even = λ d name leaf cover among. absurd (none_left name among);
 }
-  where
-    none_left : (name : ℕ) → is_in (names_without root (root ∷ [])) name ≡ true → ⊥
-    none_left name among =
-        false≢true (ap (λ b. is_in (cond (not b) (root ∷ []) []) name) (sym (eq-eqb root root refl)) ∙ among)
 
 -- the longer line
 

@@ -1,7 +1,7 @@
 -- A part with nothing unmatched and a blossom to which the laws on opened links apply; and what the definitions give
 -- on a nest of two blossoms and round a ring of five.
 use Rattle.std.specs.Prelude.{ℕ, ◌≡◌, ◌+◌, ◌==◌, List, [], ◌∷◌, map, if◌then◌else◌}
-use Rattle.fb_graph.specs.Certificate.{IsBest}
+use Rattle.fb_graph.specs.Certificate.{IsCertified}
 use Rattle.fb_graph.specs.Laws.{Link}
 use Rattle.fb_graph.specs.Dual.{Node, leaf}
 use Rattle.fb_laws.specs.OpenedCycles.{Couple, Pass}
@@ -24,7 +24,7 @@ triangle_part = record {
 abbrev pub PartWitness : Type 0
 PartWitness = IsPartState triangle triangle_part
     × (opened_links triangle_part ≡ link 2 3 (3 ∷ []) ∷ link 0 1 (0 ∷ []) ∷ [])
-    × IsBest triangle (0 ∷ 3 ∷ []) 12 printed_triangle
+    × IsCertified triangle (0 ∷ 3 ∷ []) 12 printed_triangle
 
 -- five defects, the first three in a blossom, which is in a blossom with the other two; that one is matched to the
 -- boundary at the fourth

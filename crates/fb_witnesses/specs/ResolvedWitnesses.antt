@@ -1,7 +1,7 @@
 -- The premises of the laws on nests resolved are met: a triangle's blossom is opened, and its cuts certify the
 -- correction.
 use Rattle.std.specs.Prelude.{◌≡◌, true, List, [], ◌∷◌, map, All}
-use Rattle.fb_graph.specs.Certificate.{AreRising, IsBest}
+use Rattle.fb_graph.specs.Certificate.{AreRising, IsCertified}
 use Rattle.fb_graph.specs.Printed.{HasPositiveCuts}
 use Rattle.fb_graph.specs.Laws.{Link}
 use Rattle.fb_graph.specs.Dual.{Node, all_cuts, is_live, leaves, top_at}
@@ -34,4 +34,4 @@ ResolvedWitness = IsNest triangle closed_nodes × (is_live closed_nodes 3 ≡ tr
     × All (IsTightLink triangle (all_cuts closed_nodes)) opened_links
     × EndAtDefects triangle (leaves closed_nodes) opened_links
     × HasPositiveCuts (all_cuts closed_nodes) printed_triangle × AreRising printed_triangle
-    × IsBest triangle (0 ∷ 3 ∷ []) 12 printed_triangle
+    × IsCertified triangle (0 ∷ 3 ∷ []) 12 printed_triangle

@@ -10,6 +10,7 @@ abbrev pub line_graph : DecodingGraph
 line_graph = record {
   vertices = 7;
   edges = edge 0 1 2 ∷ edge 1 2 4 ∷ edge 2 3 2 ∷ edge 3 4 6 ∷ edge 4 5 2 ∷ edge 5 6 8 ∷ [];
+  negatives = [];
   virtuals = 0 ∷ 6 ∷ [];
 }
 

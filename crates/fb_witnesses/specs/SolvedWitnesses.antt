@@ -4,7 +4,7 @@ use Rattle.std.specs.Prelude.{ℕ, ◌≡◌, ◌<◌, ◌==◌, true, List, [],
 use Rattle.std.specs.List.Sorted.{IsStrictlyIncreasing}
 use Rattle.fb_graph.specs.Parity.{is_in, is_odd_count}
 use Rattle.fb_graph.specs.Problem.{Problem}
-use Rattle.fb_graph.specs.Certificate.{AreRising, IsBest}
+use Rattle.fb_graph.specs.Certificate.{AreRising, IsCertified}
 use Rattle.fb_graph.specs.Components.{IsWalkBy}
 use Rattle.fb_graph.specs.Printed.{HasPositiveCuts}
 use Rattle.fb_graph.specs.Laws.{IsPart, IsSolved, Link, odd_edges, odd_ones}
@@ -42,9 +42,9 @@ abbrev pub BestWitness : Type 0
 BestWitness = IsNest triangle closed_nodes × HasDefects triangle closed_nodes
     × IsSolved triangle (positive_cuts closed_nodes) (0 ∷ 3 ∷ [])
     × HasPositiveCuts (all_cuts closed_nodes) printed_triangle × AreRising printed_triangle
-    × IsBest triangle (0 ∷ 3 ∷ []) 12 printed_triangle × IsPart triangle whole_triangle
+    × IsCertified triangle (0 ∷ 3 ∷ []) 12 printed_triangle × IsPart triangle whole_triangle
     × ((v : ℕ) → whole_triangle.is_real v ≡ true → triangle.is_real v ≡ true)
     × IsPartState triangle triangle_part × (triangle_part.unmatched ≡ []) × IsStrictlyIncreasing (0 ∷ 3 ∷ [])
     × ((k : ℕ) → is_odd_count (λ j. j == k) (0 ∷ 3 ∷ [])
     ≡ is_odd_count (λ j. j == k) (flat_map (λ l. l.walk) (opened_links triangle_part)))
-    × IsBest whole_triangle (0 ∷ 3 ∷ []) 12 printed_triangle
+    × IsCertified whole_triangle (0 ∷ 3 ∷ []) 12 printed_triangle

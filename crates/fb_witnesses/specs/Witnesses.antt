@@ -10,7 +10,7 @@ use Rattle.fb_graph.specs.Dual.{IsDual, AreUnderOne, AreOuterApart, all_cuts, co
 use Rattle.fb_graph.specs.Steps.{AreExclusive, gains, losses, MayStep, stepped_nodes}
 use Rattle.fb_laws.specs.Lengths.{HasPlus, IsGreatestStep}
 use Rattle.fb_graph.specs.Covers.{AreRoles, HaveParity, HasNoObstacle, is_covered_by}
-use Rattle.fb_laws.specs.Signed.{shifted_problem, unshifted_edges}
+use Rattle.fb_graph.specs.Signed.{shifted_problem, unshifted_edges}
 use Rattle.fb_graph.specs.Links.{IsSourceWalk, IsTightLink, ArePartedBy, AreEven}
 use Rattle.fb_graph.specs.Ends.{ends_in, AreAllApart}
 use Rattle.fb_laws.specs.Paths.{Branch, IsPath, AreWholeOnPath, IsWhole, LeadsOut, tip_of}

@@ -1,21 +1,19 @@
-use Rattle.std.proofs.Common.{◌≡◌, ◌≢◌, ◌<◌, ◌∙◌, ℕ, true, None, Some, length, All, ap, refl, sym, subst}
+use Rattle.std.proofs.Common.{◌≡◌, ◌≢◌, ◌∙◌, ℕ, true, None, Some, All, ap, refl, sym, subst}
 use Rattle.std.specs.List.Sorted.{IsStrictlyIncreasing}
-use Rattle.std.proofs.lemmas.List.Kept.{IsStrictlyIncreasing-filter}
 use Rattle.fb_graph.specs.Certificate.{AreDistinct}
 use Rattle.fb_graph.specs.Dual.{cover_of}
 use Rattle.fb_graph.specs.Limits.{IsGraph, no_shot}
-use Rattle.fb_plan.specs.Plans.{node_count, problem_at}
+use Rattle.fb_plan.specs.Plans.{problem_at}
 use Rattle.fb_plan.specs.Scopes.{scope_graph}
 use Rattle.fb_blossoms.specs.Nodes as blossoms
 use Rattle.fb_half.specs.InternalUnions.{IsRisingUnion}
-use Rattle.fb_half.specs.Merged.{IsPlanned, is_owned_by}
+use Rattle.fb_half.specs.Merged.{IsPlanned}
 use Rattle.fb_half.specs.Translations.{link_by}
-use Rattle.fb_half.specs.Parts.{graph_in, shot_of}
+use Rattle.fb_half.specs.Parts.{graph_in}
 use Rattle.fb_half.specs.Values.{part_of}
-use Rattle.fb_half.proofs.BegunParts.{shot_read}
 use Rattle.fb_half.proofs.DoneSteps.{always_ok, on_ok}
 use Rattle.fb_half.proofs.ListedHalves.{met_listed, opened_listed}
-use Rattle.fb_half.proofs.SeamOpenings.{freed_unlisted, live_matches, own_links, planned, seam_bare, seam_distinct, seam_leafless, seam_read, seam_opened, seam_real, shot_planned, shot_rises}
+use Rattle.fb_half.proofs.SeamOpenings.{freed_unlisted, given_rises, live_matches, own_links, planned, seam_bare, seam_distinct, seam_leafless, seam_opened, seam_real}
 use Rattle.fb_half.proofs.merging.open_seam.Goals as goal
 
 pub free_nodes-requires-clause-links : goal.free_nodes-requires-clause-links
@@ -29,26 +27,10 @@ free_nodes-requires-clause-ends c =
     subst (λ t. All (λ m. IsPlanned t (link_by c.args.parts.now.links m.link)) c.args.parts.now.matching.matches) (sym c.plan-plan.ensures)
     (planned (part_of c.args.parts.now) c.keeps.ensures (subst IsGraph c.graph.ensures c.limits.ensures) c.requires.beside.beside c.keeps-2.ensures)
 
-pub seam_defects-requires-clause-node : goal.seam_defects-requires-clause-node
-seam_defects-requires-clause-node c = subst (λ t. c.args.parts.now.node < node_count t) (sym c.plan-plan.ensures) c.requires.beside.beside.node
-
-pub seam_defects-requires-clause-rising : goal.seam_defects-requires-clause-rising
-seam_defects-requires-clause-rising c =
-    subst IsStrictlyIncreasing
-    (sym (shot_read c.args.parts.now.job.now c.args.parts.now.slot _ _ _ c.shots.ensures c.requires.beside.beside.slot c.index-shots-slot.is c.as_slice.ensures.defects))
-    (shot_rises (part_of c.args.parts.now) c.keeps.ensures (subst IsGraph c.graph.ensures c.limits.ensures) c.requires.beside.beside)
-
-pub seam_defects-requires-clause-vertices : goal.seam_defects-requires-clause-vertices
-seam_defects-requires-clause-vertices c =
-    subst (λ t. All (λ v. v < length t.owners) c.as_slice.result.now) (sym c.plan-plan.ensures)
-    (subst (All (λ v. v < length c.args.parts.now.job.now.plan.owners))
-    (sym (shot_read c.args.parts.now.job.now c.args.parts.now.slot _ _ _ c.shots.ensures c.requires.beside.beside.slot c.index-shots-slot.is c.as_slice.ensures.defects))
-    (shot_planned (part_of c.args.parts.now) c.keeps.ensures (subst IsGraph c.graph.ensures c.limits.ensures) c.requires.beside.beside))
-
 pub add_leaves-requires-clause-distinct : goal.add_leaves-requires-clause-distinct
 add_leaves-requires-clause-distinct c =
     subst AreDistinct
-    (sym (seam_read _ _ _ _ _ _ _ c.plan-plan.ensures (shot_read c.args.parts.now.job.now c.args.parts.now.slot _ _ _ c.shots.ensures c.requires.beside.beside.slot c.index-shots-slot.is c.as_slice.ensures.defects) c.in_ok-own.ensures c.deref-3.ensures.value))
+    (sym (c.deref-3.ensures.value ∙ c.in_ok-own.ensures.shifted))
     (seam_distinct (part_of c.args.parts.now) c.keeps.ensures (subst IsGraph c.graph.ensures c.limits.ensures) c.requires.beside.beside)
 
 pub add_leaves-requires-clause-real : goal.add_leaves-requires-clause-real
@@ -57,19 +39,19 @@ add_leaves-requires-clause-real c =
     (subst (λ t. All (λ v. (problem_at (graph_in (part_of c.args.parts.now)) t c.args.parts.now.regions.scope.node no_shot).is_real v ≡ true) c.deref-3.result.now) (sym c.requires.scope.plan)
     (subst (λ n. All (λ v. (problem_at (graph_in (part_of c.args.parts.now)) c.args.parts.now.job.now.plan n no_shot).is_real v ≡ true) c.deref-3.result.now) (sym c.requires.scope.node)
     (subst (All (λ v. (problem_at (graph_in (part_of c.args.parts.now)) c.args.parts.now.job.now.plan c.args.parts.now.node no_shot).is_real v ≡ true))
-    (sym (seam_read _ _ _ _ _ _ _ c.plan-plan.ensures (shot_read c.args.parts.now.job.now c.args.parts.now.slot _ _ _ c.shots.ensures c.requires.beside.beside.slot c.index-shots-slot.is c.as_slice.ensures.defects) c.in_ok-own.ensures c.deref-3.ensures.value))
+    (sym (c.deref-3.ensures.value ∙ c.in_ok-own.ensures.shifted))
     (seam_real (part_of c.args.parts.now) c.keeps.ensures (subst IsGraph c.graph.ensures c.limits.ensures) c.requires.beside.beside))))
 
 pub add_leaves-requires-clause-uncovered : goal.add_leaves-requires-clause-uncovered
 add_leaves-requires-clause-uncovered c =
     subst (All (λ v. cover_of c.args.parts.now.regions.nodes v ≡ None))
-    (sym (seam_read _ _ _ _ _ _ _ c.plan-plan.ensures (shot_read c.args.parts.now.job.now c.args.parts.now.slot _ _ _ c.shots.ensures c.requires.beside.beside.slot c.index-shots-slot.is c.as_slice.ensures.defects) c.in_ok-own.ensures c.deref-3.ensures.value))
+    (sym (c.deref-3.ensures.value ∙ c.in_ok-own.ensures.shifted))
     (seam_bare (part_of c.args.parts.now) c.keeps.ensures (subst IsGraph c.graph.ensures c.limits.ensures) c.requires.beside.beside)
 
 pub add_leaves-requires-clause-leafless : goal.add_leaves-requires-clause-leafless
 add_leaves-requires-clause-leafless c =
     subst (All (λ v. (x : ℕ) → blossoms.node_at c.args.parts.now.blossoms x ≢ Some (blossoms.leaf v)))
-    (sym (seam_read _ _ _ _ _ _ _ c.plan-plan.ensures (shot_read c.args.parts.now.job.now c.args.parts.now.slot _ _ _ c.shots.ensures c.requires.beside.beside.slot c.index-shots-slot.is c.as_slice.ensures.defects) c.in_ok-own.ensures c.deref-3.ensures.value))
+    (sym (c.deref-3.ensures.value ∙ c.in_ok-own.ensures.shifted))
     (seam_leafless (part_of c.args.parts.now) c.keeps.ensures (subst IsGraph c.graph.ensures c.limits.ensures) c.requires.beside.beside)
 
 pub add_leaves-requires-clause-listed : goal.add_leaves-requires-clause-listed
@@ -83,7 +65,7 @@ free_nodes-requires-clause-listed c =
 pub returns-clause-opened : goal.returns-clause-opened
 returns-clause-opened c =
     seam_opened _ (part_of c.args.parts.now) _ _ _ _ _ _ _ c.plan-plan.ensures
-    (seam_read _ _ _ _ _ _ _ c.plan-plan.ensures (shot_read c.args.parts.now.job.now c.args.parts.now.slot _ _ _ c.shots.ensures c.requires.beside.beside.slot c.index-shots-slot.is c.as_slice.ensures.defects) c.in_ok-own.ensures c.deref-3.ensures.value)
+    (c.deref-3.ensures.value ∙ c.in_ok-own.ensures.shifted)
     c.in_ok-free_nodes.ensures c.add_leaves.ensures.singles_added
 
 pub returns-clause-scope : goal.returns-clause-scope
@@ -100,19 +82,18 @@ returns-clause-listed c =
     on_ok c.add_leaves.result
     (λ opened. opened_listed _ (part_of c.args.parts.now) _ c.args.parts.now.seams c.take-listed.new.self c.requires.beside opened c.take-listed.ensures.others)
     (seam_opened _ (part_of c.args.parts.now) _ _ _ _ _ _ _ c.plan-plan.ensures
-    (seam_read _ _ _ _ _ _ _ c.plan-plan.ensures (shot_read c.args.parts.now.job.now c.args.parts.now.slot _ _ _ c.shots.ensures c.requires.beside.beside.slot c.index-shots-slot.is c.as_slice.ensures.defects) c.in_ok-own.ensures c.deref-3.ensures.value)
+    (c.deref-3.ensures.value ∙ c.in_ok-own.ensures.shifted)
     c.in_ok-free_nodes.ensures c.add_leaves.ensures.singles_added)
 
 pub add_rising-requires-clause-others : goal.add_rising-requires-clause-others
 add_rising-requires-clause-others c =
     subst IsStrictlyIncreasing
-    (sym (seam_read _ _ _ _ _ _ _ c.plan-plan.ensures (shot_read c.args.parts.now.job.now c.args.parts.now.slot _ _ _ c.shots.ensures c.requires.beside.beside.slot c.index-shots-slot.is c.as_slice.ensures.defects) c.in_ok-own.ensures c.deref-2.ensures.value))
-    (IsStrictlyIncreasing-filter (is_owned_by c.args.parts.now.job.now.plan c.args.parts.now.node) (shot_of (part_of c.args.parts.now)).defects
-    (shot_rises (part_of c.args.parts.now) c.keeps.ensures (subst IsGraph c.graph.ensures c.limits.ensures) c.requires.beside.beside))
+    (sym (c.deref-2.ensures.value ∙ c.in_ok-own.ensures.given))
+    (given_rises (part_of c.args.parts.now) c.keeps.ensures (subst IsGraph c.graph.ensures c.limits.ensures) c.requires.beside.beside)
 
 pub returns-clause-defects : goal.returns-clause-defects
 returns-clause-defects c =
     always_ok c.add_leaves.result
     (subst (λ l. IsRisingUnion c.args.parts.now.defects.items l c.add_rising.new.all.items)
-    (seam_read _ _ _ _ _ _ _ c.plan-plan.ensures (shot_read c.args.parts.now.job.now c.args.parts.now.slot _ _ _ c.shots.ensures c.requires.beside.beside.slot c.index-shots-slot.is c.as_slice.ensures.defects) c.in_ok-own.ensures c.deref-2.ensures.value)
+    (c.deref-2.ensures.value ∙ c.in_ok-own.ensures.given)
     c.in_ok-add_rising.ensures)

@@ -1,28 +1,58 @@
-use Rattle.std.proofs.Common.{◌<◌, ◌∙◌, All, ap, length, subst, sym}
-use Rattle.std.proofs.lemmas.List.{take_all}
-use Rattle.std.proofs.lemmas.List.Elements.{All-filter}
-use Rattle.std.specs.List.{filter}
-use Rattle.fb_plan.specs.Reaches.{is_reached}
-use Rattle.fb_plan.specs.Vertices.{is_node}
+use Rattle.std.proofs.Common.{◌<◌, ◌∙◌, length, All, ap, filter, sym, subst}
+use Rattle.std.specs.List.Sorted.{IsStrictlyIncreasing}
+use Rattle.fb_graph.specs.Limits.{IsGraph, no_shot, odd_ends}
+use Rattle.fb_plan.specs.Plans.{node_count}
 use Rattle.fb_half.specs.Merged.{is_owned_by}
-use Rattle.fb_half.proofs.Reached.{filter_pushed, owner_read, seam_reached}
+use Rattle.fb_half.specs.Parts.{shot_of}
+use Rattle.fb_half.proofs.BegunParts.{shot_at, shot_below, shot_read}
+use Rattle.fb_half.proofs.ShiftedLists.{ends_below, shifted_kept, turned_below, turned_rises}
 use Rattle.fb_half.proofs.merging.seam_defects.Goals as goal
 
-pub owner-requires : goal.owner-requires
-owner-requires c =
-    subst (All (λ v. v < length c.args.plan.now.owners)) (sym c.within-reached.ensures)
-    (All-filter (is_reached c.reach.result) (λ v. v < length c.args.plan.now.owners) c.args.defects.now c.requires.vertices)
-    c.loop-v.v-index 0 c.loop-v-test.true
+pub seam_vertices-requires-clause-node : goal.seam_vertices-requires-clause-node
+seam_vertices-requires-clause-node c = subst (λ t. c.args.node < node_count t) (sym c.plan-plan.ensures) c.requires.node
 
-pub loop-v-preserved : goal.loop-v-preserved
-loop-v-preserved c =
-    filter_pushed (is_owned_by c.args.plan.now c.args.node) c.within-reached.result.now c.loop-v.v-index 0 c.loop-v.own _ _
-    c.loop-v-test.true c.loop-v.invariant (c.eq-is_owned.ensures ∙ (owner_read c.args.node _ ∙ ap (is_node c.args.node) c.owner.ensures.value)) c.in_ok-push_if.ensures.ok
+pub seam_vertices-requires-clause-rising : goal.seam_vertices-requires-clause-rising
+seam_vertices-requires-clause-rising c = subst IsStrictlyIncreasing (sym c.as_slice.ensures.defects) c.as_slice.ensures.rising
 
-pub returns : goal.returns
-returns c =
-    c.into_vec.ensures
-    ∙ (c.loop-v.invariant
-    ∙ (ap (filter (is_owned_by c.args.plan.now c.args.node))
-    (take_all c.loop-v.v-index c.within-reached.result.now c.loop-v-test.false ∙ c.within-reached.ensures)
-    ∙ seam_reached c.args.plan.now c.args.node c.reach.result c.reach.ensures c.args.defects.now))
+pub seam_vertices-requires-clause-below : goal.seam_vertices-requires-clause-below
+seam_vertices-requires-clause-below c =
+    subst (λ t. All (λ v. v < length t.owners) c.as_slice.result.now) (sym c.plan-plan.ensures)
+    (subst (λ n. All (λ v. v < n) c.as_slice.result.now) (sym c.keeps.ensures.plan.count)
+    (subst (All (λ v. v < c.args.job.now.graph.vertices)) (sym c.as_slice.ensures.defects)
+    (subst (λ s. All (λ v. v < c.args.job.now.graph.vertices) s.defects)
+    (sym (shot_read c.args.job.now c.args.slot _ _ c.shots.ensures c.requires.slot c.index-shots-slot.is))
+    (shot_below c.args.job.now.graph _ (shot_at c.args.job.now c.args.slot c.keeps.ensures c.requires.slot)))))
+
+pub seam_vertices-requires-2-clause-below : goal.seam_vertices-requires-2-clause-below
+seam_vertices-requires-2-clause-below c =
+    subst (λ t. All (λ v. v < length t.owners) c.turned.result.now) (sym c.plan-plan.ensures)
+    (subst (λ n. All (λ v. v < n) c.turned.result.now) (sym c.keeps.ensures.plan.count)
+    (subst (λ g. All (λ v. v < g.vertices) c.turned.result.now) c.graph-graph.ensures
+    (subst (All (λ v. v < c.graph-graph.result.now.vertices)) (sym c.turned.ensures.vertices)
+    (ends_below c.graph-graph.result.now c.graph-graph.result.now.negatives))))
+
+pub seam_vertices-requires-3-clause-rising : goal.seam_vertices-requires-3-clause-rising
+seam_vertices-requires-3-clause-rising c = subst IsStrictlyIncreasing (sym c.turned-2.ensures.vertices) c.turned-2.ensures.rising
+
+pub seam_vertices-requires-3-clause-below : goal.seam_vertices-requires-3-clause-below
+seam_vertices-requires-3-clause-below c =
+    subst (λ t. All (λ v. v < length t.owners) c.turned-2.result.now) (sym c.plan-plan.ensures)
+    (subst (λ n. All (λ v. v < n) c.turned-2.result.now) (sym c.keeps.ensures.plan.count)
+    (subst (All (λ v. v < c.args.job.now.graph.vertices)) (sym c.turned-2.ensures.vertices)
+    (subst (λ s. All (λ v. v < c.args.job.now.graph.vertices) s.turned)
+    (sym (shot_read c.args.job.now c.args.slot _ _ c.shots.ensures c.requires.slot c.index-shots-slot.is))
+    (turned_below c.args.job.now.graph _ (shot_at c.args.job.now c.args.slot c.keeps.ensures c.requires.slot)))))
+
+pub returns-clause-shifted : goal.returns-clause-shifted
+returns-clause-shifted c =
+    let shot_is = shot_read c.args.job.now c.args.slot _ _ c.shots.ensures c.requires.slot c.index-shots-slot.is in
+    shifted_kept (is_owned_by c.args.job.now.plan c.args.node) c.args.job.now.graph _ (subst IsGraph c.graph-graph.ensures c.limits.ensures)
+    (shot_at c.args.job.now c.args.slot c.keeps.ensures c.requires.slot)
+    c.in_ok-shifted.shifted.items c.deref.result.now c.deref-2.result.now c.deref-3.result.now
+    (c.deref.ensures.value ∙ (c.in_ok-given.ensures
+    ∙ (λ i. filter (is_owned_by (c.plan-plan.ensures i) c.args.node) ((c.as_slice.ensures.defects ∙ ap (λ s. s.defects) shot_is) i))))
+    (c.deref-2.ensures.value ∙ (c.in_ok-by_graph.ensures
+    ∙ (λ i. filter (is_owned_by (c.plan-plan.ensures i) c.args.node) ((c.turned.ensures.vertices ∙ ap (λ g. odd_ends g g.negatives) c.graph-graph.ensures) i))))
+    (c.deref-3.ensures.value ∙ (c.in_ok-by_shot.ensures
+    ∙ (λ i. filter (is_owned_by (c.plan-plan.ensures i) c.args.node) ((c.turned-2.ensures.vertices ∙ ap (λ s. s.turned) shot_is) i))))
+    c.in_ok-shifted.ensures.rising c.in_ok-shifted.ensures.parity

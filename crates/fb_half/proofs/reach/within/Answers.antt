@@ -6,7 +6,7 @@ use Rattle.fb_half.proofs.reach.within.Goals as goal
 
 pub returns : goal.returns
 returns c =
-    let xs : List ℕ = c.args.defects.now in
+    let xs : List ℕ = c.args.vertices.now in
     let i : ℕ = c.partition_point.result in
     let rest : List ℕ = take (length xs - i) (drop i xs) in
     let up = never_falls xs c.requires in

@@ -1,28 +1,29 @@
-use Rattle.std.proofs.Common.{◌<◌, ◌∙◌, All, ap, subst, sym}
-use Rattle.std.proofs.lemmas.List.{take_all}
-use Rattle.std.proofs.lemmas.List.Elements.{All-filter}
-use Rattle.std.specs.List.{filter}
+use Rattle.std.proofs.Common.{◌<◌, ◌∙◌, All, ap, filter, sym, subst}
 use Rattle.fb_plan.specs.Scopes.{scope_problem}
-use Rattle.fb_plan.specs.Reaches.{is_reached}
-use Rattle.fb_half.proofs.Reached.{filter_pushed, real_reached}
+use Rattle.fb_half.proofs.BegunParts.{shot_below}
+use Rattle.fb_half.proofs.ShiftedLists.{ends_below, shifted_kept, turned_below}
 use Rattle.fb_half.proofs.start.own_defects.Goals as goal
 
-pub is_real-requires : goal.is_real-requires
-is_real-requires c =
-    subst (All (λ v. v < c.args.scope.now.graph.now.vertices)) (sym c.within-reached.ensures)
-    (All-filter (is_reached c.args.reach) (λ v. v < c.args.scope.now.graph.now.vertices) c.args.defects.now c.requires.vertices)
-    c.loop-v.v-index 0 c.loop-v-test.true
+pub own_vertices-requires-clause-below : goal.own_vertices-requires-clause-below
+own_vertices-requires-clause-below c =
+    subst (All (λ v. v < c.args.scope.now.graph.now.vertices)) (sym c.as_slice.ensures.defects)
+    (shot_below c.args.scope.now.graph.now c.args.scope.now.shot.now c.args.scope.now.fits)
 
-pub loop-v-preserved : goal.loop-v-preserved
-loop-v-preserved c =
-    filter_pushed (scope_problem c.args.scope.now).is_real
-    c.within-reached.result.now c.loop-v.v-index 0 c.loop-v.own _ c.is_real.result
-    c.loop-v-test.true c.loop-v.invariant c.is_real.ensures c.in_ok-push_if.ensures.ok
+pub own_vertices-requires-2-clause-below : goal.own_vertices-requires-2-clause-below
+own_vertices-requires-2-clause-below c =
+    subst (All (λ v. v < c.args.scope.now.graph.now.vertices)) (sym c.turned.ensures.vertices)
+    (ends_below c.args.scope.now.graph.now c.args.scope.now.graph.now.negatives)
 
-pub returns : goal.returns
-returns c =
-    c.into_vec.ensures
-    ∙ (c.loop-v.invariant
-    ∙ (ap (filter (scope_problem c.args.scope.now).is_real)
-    (take_all c.loop-v.v-index c.within-reached.result.now c.loop-v-test.false ∙ c.within-reached.ensures)
-    ∙ real_reached (scope_problem c.args.scope.now) c.args.reach c.requires.reach c.args.defects.now))
+pub own_vertices-requires-3-clause-below : goal.own_vertices-requires-3-clause-below
+own_vertices-requires-3-clause-below c =
+    subst (All (λ v. v < c.args.scope.now.graph.now.vertices)) (sym c.turned-2.ensures.vertices)
+    (turned_below c.args.scope.now.graph.now c.args.scope.now.shot.now c.args.scope.now.fits)
+
+pub returns-clause-shifted : goal.returns-clause-shifted
+returns-clause-shifted c =
+    shifted_kept (scope_problem c.args.scope.now).is_real c.args.scope.now.graph.now c.args.scope.now.shot.now c.limits.ensures c.args.scope.now.fits
+    c.in_ok-shifted.shifted.items c.deref.result.now c.deref-2.result.now c.deref-3.result.now
+    (c.deref.ensures.value ∙ (c.in_ok-given.ensures ∙ ap (filter (scope_problem c.args.scope.now).is_real) c.as_slice.ensures.defects))
+    (c.deref-2.ensures.value ∙ (c.in_ok-by_graph.ensures ∙ ap (filter (scope_problem c.args.scope.now).is_real) c.turned.ensures.vertices))
+    (c.deref-3.ensures.value ∙ (c.in_ok-by_shot.ensures ∙ ap (filter (scope_problem c.args.scope.now).is_real) c.turned-2.ensures.vertices))
+    c.in_ok-shifted.ensures.rising c.in_ok-shifted.ensures.parity

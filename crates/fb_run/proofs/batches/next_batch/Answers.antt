@@ -1,6 +1,6 @@
 use Rattle.std.proofs.Common.{ℕ, All, List, sym, subst}
 use Rattle.fb_crew.specs.Windows.{AreRows, IsHistoryOf}
-use Rattle.fb_graph.specs.Limits.{DecodingGraph, IsShot, ShotValue}
+use Rattle.fb_graph.specs.Limits.{DecodingGraph, IsGraph, IsShot, ShotValue}
 use Rattle.fb_run.proofs.batches.next_batch.Goals as goal
 
 pub solve_batch-requires-clause-shots : goal.solve_batch-requires-clause-shots
@@ -15,6 +15,8 @@ returns-clause-batch g c =
       shots = c.in_ok-taken.taken.shots.items;
       takes = c.in_ok-taken.ensures.takes;
       answers = record {
+        is_graph = subst IsGraph c.requires.graph c.in_ok-batch.ensures.graph;
+        of_graph = c.in_ok-taken.ensures.takes.gives.all;
         rows = subst (λ (graph : DecodingGraph). AreRows graph c.in_ok-taken.taken.shots.items batch.rows.items) c.requires.graph
             (subst (λ (shots : List ShotValue). AreRows crew.graph shots batch.rows.items) c.as_slice.ensures.value c.in_ok-batch.ensures.rows);
         history = λ traced. subst (λ (n : ℕ). IsHistoryOf crew.plan n batch.rows.items batch.history.items) c.requires.workers

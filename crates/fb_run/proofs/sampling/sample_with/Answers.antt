@@ -1,8 +1,11 @@
-use Rattle.std.proofs.Common.{arith, ◌+◌, length, All, sym, ap, ◌∙◌}
+use Rattle.std.proofs.Common.{arith, ◌+◌, ◌+ℤ◌, length, All, sym, subst, ap, ◌∙◌}
+use Rattle.std.proofs.lemmas.Int.{ints}
 use Rattle.std.proofs.lemmas.Slice.Zip.{AllZip-long}
 use Rattle.fb_crew.specs.Windows.{AreRows, IsShotRow}
 use Rattle.fb_graph.specs.Limits.{IsShot}
 use Rattle.fb_run.specs.Samples.{defects_in, weights_in}
+use Rattle.fb_run.specs.InternalSums.{HasLowWeight}
+use Rattle.fb_run.proofs.LowWeights.{low_rows}
 use Rattle.fb_run.proofs.Sampled.{more_sums, state_of_more}
 use Rattle.fb_run.proofs.sampling.sample_with.Goals as goal
 
@@ -23,6 +26,17 @@ with_window-sums-requires-clause-rows g c = omega (
   c.requires.ranges.window,
 )
 
+pub with_window-sums-requires-clause-low : goal.with_window-sums-requires-clause-low
+with_window-sums-requires-clause-low g c =
+    let graph = ap (λ crew. crew.graph) c.loop-drawn.invariant.crew ∙ c.requires.crew in
+    let rows = c.in_ok-window.window.rows.items in
+    let decoded : AreRows c.args.graph.now c.in_ok-shots.shots.items rows =
+    rw (sym graph, sym c.as_slice.ensures.value) c.in_ok-window.ensures.rows in
+    let low : All HasLowWeight c.as_slice-in-loop-drawn-2.result.now =
+    subst (All HasLowWeight) (sym c.as_slice-in-loop-drawn-2.ensures.value)
+    (low_rows c.args.graph.now c.in_ok-shots.shots.items rows c.limits.ensures c.in_ok-shots.ensures.each decoded) in
+    low
+
 pub loop-drawn-preserved : goal.loop-drawn-preserved
 loop-drawn-preserved g c =
     let edges = length c.args.graph.now.edges in
@@ -38,7 +52,7 @@ loop-drawn-preserved g c =
           c.loop-drawn.sums.weight c.with_window-sums.result.defects c.with_window-sums.result.weight shots rows c.loop-drawn.invariant.sums
           c.loop-drawn.invariant.state c.in_ok-shots.ensures.shots decoded
           (c.with_window-sums.ensures.defects ∙ ap (λ xs. c.loop-drawn.sums.defects + defects_in xs) c.as_slice-in-loop-drawn.ensures.value)
-          (c.with_window-sums.ensures.weight ∙ ap (λ xs. c.loop-drawn.sums.weight + weights_in xs) c.as_slice-in-loop-drawn-2.ensures.value);
+          (c.with_window-sums.ensures.weight ∙ ap (λ xs. c.loop-drawn.sums.weight +ℤ weights_in xs) c.as_slice-in-loop-drawn-2.ensures.value);
       state = state_of_more start c.loop-drawn.draws c.draw_window.new.draws edges drawn count c.loop-drawn.invariant.state c.in_ok-shots.ensures.state;
       crew = c.in_ok-window.ensures.same ∙ c.loop-drawn.invariant.crew;
       drawn = omega (arith, c.min-count.ensures, c.loop-drawn-test.true);
@@ -49,12 +63,30 @@ loop-drawn-preserved g c =
         ap length c.as_slice-in-loop-drawn.ensures.value,
         c.in_ok-shots.ensures.many,
       );
-      weight = omega (
-        arith,
-        c.with_window-sums.ensures.low_weight,
-        c.loop-drawn.invariant.weight,
-        ap length c.as_slice-in-loop-drawn-2.ensures.value,
-        as_many,
-        c.in_ok-shots.ensures.many,
-      );
+      weight = record {
+        above = omega (
+          arith,
+          ints,
+          c.with_window-sums.ensures.weight,
+          c.with_window-sums.ensures.low_weight.above,
+          c.with_window-sums.ensures.low_weight.below,
+          c.loop-drawn.invariant.weight.above,
+          c.loop-drawn.invariant.weight.below,
+          ap length c.as_slice-in-loop-drawn-2.ensures.value,
+          as_many,
+          c.in_ok-shots.ensures.many,
+        );
+        below = omega (
+          arith,
+          ints,
+          c.with_window-sums.ensures.weight,
+          c.with_window-sums.ensures.low_weight.above,
+          c.with_window-sums.ensures.low_weight.below,
+          c.loop-drawn.invariant.weight.above,
+          c.loop-drawn.invariant.weight.below,
+          ap length c.as_slice-in-loop-drawn-2.ensures.value,
+          as_many,
+          c.in_ok-shots.ensures.many,
+        );
+      };
     }

@@ -1,6 +1,7 @@
 use Rattle.fb_graph.specs.Limits.{most_vertices}
 use Rattle.std.proofs.Common.{◌≡◌, ◌*◌, ◌-◌, ◌^◌, ◌≤◌, length}
 use Rattle.fb_gen.specs.Drawing.{state_after}
+use Rattle.fb_run.specs.InternalSums.{IsLow}
 use Rattle.fb_run.specs.Samples.{HaveSums}
 use Rattle.fb_run.proofs.sampling.sample_with.Given as goal
 
@@ -11,7 +12,7 @@ invariant-loop-drawn g l = record {
   crew : l.crew ≡ l.initial.crew;
   drawn : l.drawn ≤ l.request.shots;
   defects : l.sums.defects ≤ most_vertices * l.drawn;
-  weight : l.sums.weight ≤ 2 ^ 64 * l.drawn;
+  weight : IsLow (2 ^ 64 * l.drawn) l.sums.weight;
 }
 
 abbrev pub decreases-loop-drawn : goal.decreases-loop-drawn

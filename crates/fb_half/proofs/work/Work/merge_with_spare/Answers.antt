@@ -12,7 +12,7 @@ use Rattle.fb_half.specs.InternalMerging.{joined_part}
 use Rattle.fb_half.specs.InternalSeams.{AreBesideListed, IsOpened, met_nodes}
 use Rattle.fb_half.specs.Matchings.{listed_names, matched_names}
 use Rattle.fb_half.specs.InternalUnions.{IsRisingUnion}
-use Rattle.fb_half.specs.Merged.{renamed_match, seam_defects}
+use Rattle.fb_half.specs.Merged.{renamed_match, shot_seam}
 use Rattle.fb_half.specs.Merged as promised
 use Rattle.fb_half.specs.Parts.{IsPart, PartValue, graph_in, problem_in, shot_of}
 use Rattle.fb_half.specs.Seams.{AreListed}
@@ -25,7 +25,7 @@ use Rattle.fb_half.proofs.FusedMatches.{merged_is}
 use Rattle.fb_half.proofs.GivenHalves.{halves_of, pieces_are}
 use Rattle.fb_half.proofs.ListedHalves.{beside_listed}
 use Rattle.fb_half.proofs.MergedHalves.{beside, leaves_apart, matches_distinct, scoped_parts}
-use Rattle.fb_half.proofs.OwnDefects.{own_joined, own_rises}
+use Rattle.fb_half.proofs.OwnDefects.{given_joined, given_rises}
 use Rattle.fb_half.proofs.SlotScopes.{graphs_alike, scope_graph_is}
 use Rattle.fb_half.proofs.work.Work.merge_with_spare.Goals as goal
 
@@ -128,12 +128,12 @@ complete-requires-clause-beside c =
 pub complete-requires-clause-defects : goal.complete-requires-clause-defects
 complete-requires-clause-defects c =
     subst IsStrictlyIncreasing (sym (c.in_ok-merged.ensures.defects ∙ c.into_parts-left.ensures.scope.defects))
-    (own_rises (part_of c.into_parts-left.result) (subst IsPart (sym c.into_parts-left.ensures.value) c.keeps-2.ensures.part))
+    (given_rises (part_of c.into_parts-left.result) (subst IsPart (sym c.into_parts-left.ensures.value) c.keeps-2.ensures.part))
 
 pub complete-requires-clause-other_defects : goal.complete-requires-clause-other_defects
 complete-requires-clause-other_defects c =
     subst IsStrictlyIncreasing (sym (c.in_ok-merged.ensures.other_defects ∙ c.into_parts-right.ensures.scope.defects))
-    (own_rises (part_of c.into_parts-right.result) (subst IsPart (sym c.into_parts-right.ensures.value) c.keeps-3.ensures.part))
+    (given_rises (part_of c.into_parts-right.result) (subst IsPart (sym c.into_parts-right.ensures.value) c.keeps-3.ensures.part))
 
 pub invariant_of-result : goal.invariant_of-result
 invariant_of-result c =
@@ -169,16 +169,16 @@ invariant_of-result c =
             keeps (λ m. AreListed (problem_in (part_of m.parts)).is_real m.parts.job.now.plan m.parts.seams m.parts.links m.parts.matching.matches)
             c.complete.ensures.listed;
         defects =
-            own_joined (part_of c.into_parts-left.result) (part_of c.into_parts-right.result) c.args.node h.limits h.children h.one h.two h.matched h.also
+            given_joined (part_of c.into_parts-left.result) (part_of c.into_parts-right.result) c.args.node h.limits h.children h.one h.two h.matched h.also
             (part_of c.in_ok-whole.whole.parts) c.in_ok-merged.merged.parts.defects.items c.in_ok-merged.merged.other_defects.items c.in_ok-whole.whole.parts.defects.items
             (opened.job ∙ c.in_ok-merged.ensures.job) (opened.slot ∙ c.in_ok-merged.ensures.slot)
             (opened.node ∙ (c.in_ok-merged.ensures.node ∙ c.scope-scope.ensures.node)) h.same_job h.same_slot
             (c.in_ok-merged.ensures.defects ∙ c.into_parts-left.ensures.scope.defects)
             (c.in_ok-merged.ensures.other_defects ∙ c.into_parts-right.ensures.scope.defects)
             (subst (λ l. IsRisingUnion (c.in_ok-merged.merged.parts.defects.items ++ c.in_ok-merged.merged.other_defects.items) l c.in_ok-whole.whole.parts.defects.items)
-            (λ i. seam_defects (c.in_ok-merged.ensures.job i) (c.in_ok-merged.ensures.slot i) ((c.in_ok-merged.ensures.node ∙ c.scope-scope.ensures.node) i))
+            (λ i. shot_seam (c.in_ok-merged.ensures.job i) (c.in_ok-merged.ensures.slot i) ((c.in_ok-merged.ensures.node ∙ c.scope-scope.ensures.node) i))
             (keeps (λ m. IsRisingUnion (c.in_ok-merged.merged.parts.defects.items ++ c.in_ok-merged.merged.other_defects.items)
-            (seam_defects c.in_ok-merged.merged.parts.job.now c.in_ok-merged.merged.parts.slot c.in_ok-merged.merged.parts.node) m.parts.defects.items)
+            (shot_seam c.in_ok-merged.merged.parts.job.now c.in_ok-merged.merged.parts.slot c.in_ok-merged.merged.parts.node) m.parts.defects.items)
             c.complete.ensures.defects));
       },
       fused_part (part_of c.into_parts-left.result) (part_of c.into_parts-right.result) c.args.node h.limits h.children h.one h.two h.matched h.also

@@ -1,7 +1,7 @@
 use Rattle.std.proofs.Common.{◌≡◌, take}
 use Rattle.std.specs.List.{filter}
 use Rattle.fb_plan.specs.Scopes.{scope_problem}
-use Rattle.fb_half.proofs.start.own_defects.Given as goal
+use Rattle.fb_half.proofs.start.own_vertices.Given as goal
 
 abbrev pub invariant-loop-v : goal.invariant-loop-v
 invariant-loop-v l =
