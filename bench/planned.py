@@ -129,11 +129,16 @@ def write_plan(units, file, folder):
     return ["--plan", file]
 
 
+def shots_instead(words, file, folder):
+    """The same words with another file of shots."""
+    return [file if word == folder / "shots" else word for word in words]
+
+
 def shot_seconds(ways, folder):
     """The seconds that go by in each way to decode the shots, without those that reading the graph and the plan takes."""
     calls = []
     for words in ways:
-        bare = [os.devnull if word == folder / "shots" else word for word in words]
+        bare = shots_instead(words, os.devnull, folder)
         calls += [lambda words=each: seconds_of(words, folder) for each in (bare, words)]
     times = least_in_turn(calls)
     return [max(full - empty, LEAST_SECONDS) for empty, full in zip(times[::2], times[1::2])]
@@ -191,6 +196,14 @@ def measure_making(name, steps, units, folder, vertices):
 
 
 LAYER_UNITS = [4, 16, 64]
+# Callgrind takes some fifty times as long, so it is given fewer shots.
+COUNTED_SHOTS = 64
+
+
+def decoding_instructions(words, folder):
+    """The instructions of the first shots without those of reading the graph and the plan; none where callgrind is absent."""
+    counts = [instructions(shots_instead(words, file, folder)) for file in (os.devnull, folder / "first")]
+    return counts[1] - counts[0] if counts[0] else None
 
 
 def measure_layers(name, units, plan, folder):
@@ -200,14 +213,21 @@ def measure_layers(name, units, plan, folder):
     ways = [[*words, "--plan", folder / "time.json"], [*words, *write_plan(units, folder / "layers.json", folder)]]
     by_time, by_layers = shot_seconds([[*way, "--workers", "4", "--window", "64"] for way in ways], folder)
     cells = [f"{units}", f"{1e3 * by_time:,.1f}", f"x{by_layers / by_time:.2f}"]
-    counted, count = map(instructions, ways)
-    print_line(name, [*cells, *([f"x{count / counted:.3f}"] if count else [])])
+    before, count = (decoding_instructions(way, folder) for way in ways)
+    print_line(name, [*cells, *([f"x{count / before:.3f}"] if count else [])])
+
+
+def write_first_shots(detectors, folder):
+    """Writes the shots of which instructions are counted."""
+    with open(folder / "shots", "rb") as shots:
+        (folder / "first").write_bytes(shots.read(COUNTED_SHOTS * ((detectors + 7) // 8)))
 
 
 def measure_lattice(distance, rounds, shots, most_units, folder):
     graph = rounds_lattice(distance, rounds)
     write_graph(graph, folder / "graph.json")
     write_hit_shots(graph, 0.005, shots, folder)
+    write_first_shots(graph.vertices - len(graph.virtuals), folder)
     for units in LAYER_UNITS:
         if units <= most_units:
             plan = json.dumps(plan_by_rounds(distance * (distance + 1), rounds, units, False))
@@ -221,6 +241,7 @@ def measure_model(distance, rounds, shots, most_units, folder):
     (folder / "graph.json").write_text(graph_text(model.graph()))
     size = (code.detectors + 7) // 8
     (folder / "shots").write_bytes(b"".join(fired.to_bytes(size, "little") for fired, _ in code.shots(shots, 1)))
+    write_first_shots(code.detectors, folder)
     for units in LAYER_UNITS:
         if units <= most_units:
             measure_layers(f"model: {distance}, {rounds} rounds", units, plan_text(plan_by_time(model, units)), folder)

@@ -46,7 +46,7 @@ def covered(graph, cuts):
                 end, other = (u, v) if u in inside else (v, u)
                 first = used.get((edge, end), 0)
                 used[edge, end] = first + value
-                yield inside, end, other, first / weight, (first + value) / weight
+                yield inside, end, other, first / abs(weight), (first + value) / abs(weight)
 
 
 def colours_of(graph, plan):

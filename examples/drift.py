@@ -23,6 +23,8 @@ def changes_between(graph, later):
 
 
 def main():
+    if len(sys.argv) != 3:
+        raise SystemExit(__doc__)
     # A reader that leaves early ends the script, as it ends any filter.
     signal.signal(signal.SIGPIPE, signal.SIG_DFL)
     graph, later = (json.loads(Path(name).read_text()) for name in sys.argv[1:])

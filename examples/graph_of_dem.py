@@ -4,10 +4,10 @@
 usage: examples/graph_of_dem.py [--skip-hyperedges] [--units K --plan NAME] [SCALE]
 
 Errors are decomposed into parts of one or two detectors, as `stim analyze_errors --decompose_errors` writes them; with
---skip-hyperedges larger parts are left out, and their number goes to standard error.
-Vertex k is detector k, and the last vertex is the boundary. A weight is the logarithm of the odds against an error,
-times the scale (1000 where none is given), as the nearest even whole number. Errors with the same detectors and
-observables become one edge. The member `observables` lists for each observable the edges that flip it.
+--skip-hyperedges larger parts are left out, and their number goes to standard error. Vertex k is detector k, and the
+last vertex is the boundary. A weight is the logarithm of the odds against an error, times the scale (1000 where none is
+given), as the nearest even whole number: below 0 where the error is likelier than not. Errors with the same detectors
+and observables become one edge. The member `observables` lists for each observable the edges that flip it.
 
 With --units and --plan a plan by time of K units is written to a file: the last coordinate of a detector is its time.
 """

@@ -20,12 +20,14 @@ import program
 import readers
 from traces import trace_complaints
 
-# A line with a boundary, and a triangle without one, so that some shots have no correction.
+# A line with a boundary, and a triangle without one, so that some shots have no correction; a negative edge in each, of
+# which the one ends at a seam.
 GRAPH = {
     "vertex_num": 11,
     "weighted_edges": [[v, v + 1, 2 + 2 * (v % 3)] for v in range(7)] + [[8 + v, 8 + (v + 1) % 3, 4] for v in range(3)],
     "virtual_vertices": [0, 7],
 }
+GRAPH["weighted_edges"][2][2], GRAPH["weighted_edges"][8][2] = -6, -4
 PLAN = {
     "units": [[[0, 3]], [[4, 8]], [[8, 11]]],
     "fusions": [{"of": [0, 1], "interface": [[3, 4]]}, {"of": [3, 2], "interface": []}],
@@ -40,8 +42,8 @@ def runs(hits):
     return bytes(end - start for start, end in zip(starts, ends))
 
 
-# What every third shot changes, in json.
-CHANGES = {"erasures": [2, 8], "dynamic_weights": [[5, 4], [0, 8], [5, 2]]}
+# What every third shot changes, in json: the negative edges are erased, and another one turns.
+CHANGES = {"erasures": [2, 8], "dynamic_weights": [[5, 4], [0, 8], [5, -2]]}
 HITS = [[DETECTORS.index(v) for v in shot] for shot in SHOTS]
 RECORDS = {
     "01": ["".join("01"[v in shot] for v in DETECTORS).encode() + b"\n" for shot in SHOTS],

@@ -1,6 +1,7 @@
 """Random graphs of many shapes, and shots on them.
 
-Rings in rings, stars, long lines, complete graphs, grids, parallel edges and edges of no weight or of the greatest.
+Rings in rings, stars, long lines, complete graphs, grids, parallel edges and edges of no weight or of the greatest, and
+any of them with negative edges.
 """
 
 from collections import Counter, namedtuple
@@ -103,6 +104,21 @@ def side_by_side(draw, count):
     return Graph(len(numbers), edges, [numbers[first + v] for first, part in zip(firsts, parts) for v in part.virtuals])
 
 
+def turned(draw, weights, count):
+    """Weights of which so many at most, anywhere among them, have got a minus sign."""
+    chosen = set(draw.sample(range(len(weights)), min(count, len(weights))))
+    return [-abs(weight) if k in chosen else weight for k, weight in enumerate(weights)]
+
+
+def with_signs(draw, graph, share=None):
+    """The graph with a share of its edges negative; unless that is given, with none or a few, or in a small graph often
+    all."""
+    count = len(graph.edges)
+    few = draw.choice([0, 1, 2, 4] + ([count // 2, count] if count < 20 else [0]))
+    weights = turned(draw, [weight for *_, weight in graph.edges], few if share is None else round(share * count))
+    return graph._replace(edges=[(u, v, weight) for (u, v, _), weight in zip(graph.edges, weights)])
+
+
 SHAPES = [rings_in_rings, star, long_line, complete_graph, grid]
 
 
@@ -114,7 +130,8 @@ def random_shot(draw, graph, most):
 
 
 def random_changes(draw, graph, defects):
-    """Erased edges, and pairs of an edge and a weight: of edges anywhere or of all near the defects, some of them twice."""
+    """Erased edges, and pairs of an edge and a weight: of edges anywhere or of all near the defects, some of them
+    twice, and a few negative."""
     if draw.random() < 0.5:
         rate = draw.choice([0.03, 0.1, 0.3, 1])
         edges = [e for e in range(len(graph.edges)) if draw.random() < rate]
@@ -127,6 +144,8 @@ def random_changes(draw, graph, defects):
     erasures = [e for e in edges if draw.random() < share]
     left = sorted(set(edges) - set(erasures)) + draw.sample(erasures, len(erasures) // 4)
     pairs = [[e, draw.choice(weights)] for e in left + draw.sample(left, len(left) // 4)]
+    signed = turned(draw, [weight for _, weight in pairs], draw.choice([0, 0, 1, 3]))
+    pairs = [[e, weight] for (e, _), weight in zip(pairs, signed)]
     erasures += draw.sample(erasures, len(erasures) // 8)
     draw.shuffle(erasures)
     draw.shuffle(pairs)

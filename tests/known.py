@@ -20,6 +20,14 @@ PAIR = (4, [(0, 1, 4), (1, 2, 2), (2, 3, 4)], [0, 3])
 TREE = (5, [(0, 1, 4), (1, 2, 2), (0, 3, 12), (2, 4, 4)], [4])
 EMPTY = (0, [], [])
 NINE = (9, [], [])
+# Graphs with negative weights: in the middle of the line, at its virtual end, everywhere; a triangle without a
+# boundary; an edge between two virtual vertices; the greatest weights.
+DIP = (5, [(0, 1, 2), (1, 2, -4), (2, 3, 2), (3, 4, 6)], [0, 4])
+DIP_AT_THE_END = (5, [(0, 1, -2), (1, 2, 4), (2, 3, 2), (3, 4, 6)], [0, 4])
+ALL_NEGATIVE = (5, [(0, 1, -2), (1, 2, -4), (2, 3, -2), (3, 4, -6)], [0, 4])
+NEGATIVE_TRIANGLE = (3, [(0, 1, -2), (1, 2, -2), (0, 2, -2)], [])
+BETWEEN_VIRTUALS = (5, [(0, 1, 2), (1, 2, 4), (2, 3, 2), (3, 4, 6), (0, 4, -2)], [0, 4])
+DEEP = (4, [(0, 1, -(2**30)), (1, 2, 0), (1, 2, -2), (2, 3, 2**30), (0, 3, -2)], [0, 3])
 
 # Graph, record, edges, weight, cuts.
 BEST_ROWS = [
@@ -40,33 +48,75 @@ BEST_ROWS = [
     (EMPTY, "", [], 0, []),
 ]
 
+# The same with negative weights: graph, record, edges, base, weight, cuts.
+SIGNED_ROWS = [
+    (DIP, "000", [], -4, 0, [(2, [1]), (2, [2])]),
+    (DIP, "100", [0], -4, 2, [(2, [1, 2, 3]), (2, [2]), (2, [2, 3])]),
+    (DIP, "010", [0, 1], -4, -2, [(2, [1])]),
+    (DIP, "110", [1], -4, -4, []),
+    (DIP, "001", [0, 1, 2], -4, 0, [(2, [1]), (2, [3])]),
+    (DIP, "101", [1, 2], -4, -2, [(2, [3])]),
+    (DIP, "111", [1, 3], -4, 2, [(4, [2, 3]), (2, [3])]),
+    (DIP_AT_THE_END, "000", [], -2, 0, [(2, [1])]),
+    (DIP_AT_THE_END, "100", [0], -2, -2, []),
+    (ALL_NEGATIVE, "000", [0, 1, 2, 3], -14, -14, []),
+    (ALL_NEGATIVE, "010", [2, 3], -14, -8, [(2, [1, 2, 3]), (2, [2]), (2, [2, 3])]),
+    (NEGATIVE_TRIANGLE, "000", [0, 1, 2], -6, -6, []),
+    (NEGATIVE_TRIANGLE, "110", [1, 2], -6, -4, [(1, [0]), (1, [1])]),
+    (BETWEEN_VIRTUALS, "000", [4], -2, -2, []),
+    (BETWEEN_VIRTUALS, "100", [0, 4], -2, 0, [(2, [1])]),
+    (DEEP, "11", [2, 4], -(2**30) - 4, -4, [(2**30, [1, 2])]),
+    (DEEP, "10", [0, 1, 2, 4], -(2**30) - 4, -(2**30) - 4, []),
+]
+
 # Graph, record, row, verdict.
 JUDGED_ROWS = [
-    (LINE, "101", ("best", [1, 2], 6, [(2, [1]), (1, [2, 3]), (3, [3])]), "Overloaded 2"),
-    (LINE, "101", ("best", [1, 2], 6, [(2, [1]), (2, [3])]), "SumDiffers 6 4"),
-    (LINE, "101", ("best", [0, 3], 8, [(2, [1]), (2, [2, 3]), (2, [3])]), "SumDiffers 8 6"),
-    (LINE, "101", ("best", [0, 3], 8, [(2, [1]), (6, [3])]), "Overloaded 2"),
-    (LINE, "101", ("best", [1, 4], 6, []), "EdgeOutOfRange 4"),
-    (LINE, "101", ("best", [2, 1], 6, []), "EdgesNotRising 1"),
-    (LINE, "101", ("best", [1, 1, 2], 10, []), "EdgesNotRising 1"),
-    (LINE, "101", ("best", [1], 4, []), "WrongParity 2"),
-    (LINE, "100", ("best", [], 0, []), "WrongParity 1"),
-    (LINE, "100", ("best", [0], 4, [(2, [1])]), "WeightNotSum 4 2"),
-    (LINE, "100", ("best", [0], 2, [(2, [])]), "CutEmpty 0"),
-    (LINE, "100", ("best", [0], 2, [(2, [1, 5])]), "VertexOutOfRange 5"),
-    (LINE, "100", ("best", [0], 2, [(1, [1]), (1, [1])]), "CutsNotRising 1"),
-    (LINE, "100", ("best", [0], 2, [(1, [1, 2]), (1, [1])]), "CutsNotRising 1"),
-    (LINE, "100", ("best", [0], 2, [(2, [2, 1])]), "CutsNotRising 0"),
-    (LINE, "100", ("best", [0], 2, [(2, [0, 1])]), "CutHoldsVirtual 0"),
-    (LINE, "100", ("best", [0], 2, [(2, [2])]), "CutEven 0"),
-    (LINE, "110", ("best", [1], 4, [(4, [1, 2])]), "CutEven 0"),
-    (LINE, "100", ("best", [0], 2, [(1, [1]), (1, [1, 2])]), "Good"),
+    (LINE, "101", ("best", [1, 2], 0, 6, [(2, [1]), (1, [2, 3]), (3, [3])]), "Overloaded 2"),
+    (LINE, "101", ("best", [1, 2], 0, 6, [(2, [1]), (2, [3])]), "SumDiffers 6 4"),
+    (LINE, "101", ("best", [0, 3], 0, 8, [(2, [1]), (2, [2, 3]), (2, [3])]), "SumDiffers 8 6"),
+    (LINE, "101", ("best", [0, 3], 0, 8, [(2, [1]), (6, [3])]), "Overloaded 2"),
+    (LINE, "101", ("best", [1, 4], 0, 6, []), "EdgeOutOfRange 4"),
+    (LINE, "101", ("best", [2, 1], 0, 6, []), "EdgesNotRising 1"),
+    (LINE, "101", ("best", [1, 1, 2], 0, 10, []), "EdgesNotRising 1"),
+    (LINE, "101", ("best", [1], 0, 4, []), "WrongParity 2"),
+    (LINE, "100", ("best", [], 0, 0, []), "WrongParity 1"),
+    (LINE, "100", ("best", [0], 0, 4, [(2, [1])]), "WeightNotSum 4 2"),
+    (LINE, "100", ("best", [0], 0, 2, [(2, [])]), "CutEmpty 0"),
+    (LINE, "100", ("best", [0], 0, 2, [(2, [1, 5])]), "VertexOutOfRange 5"),
+    (LINE, "100", ("best", [0], 0, 2, [(1, [1]), (1, [1])]), "CutsNotRising 1"),
+    (LINE, "100", ("best", [0], 0, 2, [(1, [1, 2]), (1, [1])]), "CutsNotRising 1"),
+    (LINE, "100", ("best", [0], 0, 2, [(2, [2, 1])]), "CutsNotRising 0"),
+    (LINE, "100", ("best", [0], 0, 2, [(2, [0, 1])]), "CutHoldsVirtual 0"),
+    (LINE, "100", ("best", [0], 0, 2, [(2, [2])]), "CutEven 0"),
+    (LINE, "110", ("best", [1], 0, 4, [(4, [1, 2])]), "CutEven 0"),
+    (LINE, "100", ("best", [0], 0, 2, [(1, [1]), (1, [1, 2])]), "Good"),
     (LINE, "100", ("odd", 1), "OddWrong 1"),
     (TWO_PARTS, "1110", ("odd", 0), "Good"),
     (TWO_PARTS, "1110", ("odd", 1), "OddWrong 1"),
     (TWO_PARTS, "0001", ("odd", 3), "OddWrong 3"),
-    (PAIR, "11", ("best", [1], 2, [(2, [2])]), "Good"),
-    (PAIR, "11", ("best", [0, 2], 8, [(4, [1]), (4, [2])]), "Overloaded 1"),
+    (PAIR, "11", ("best", [1], 0, 2, [(2, [2])]), "Good"),
+    (PAIR, "11", ("best", [0, 2], 0, 8, [(4, [1]), (4, [2])]), "Overloaded 1"),
+    (LINE, "100", ("best", [0], -2, 2, [(2, [1])]), "BaseDiffers -2 0"),
+    (LINE, "100", ("best", [0], 2, 2, []), "BaseDiffers 2 0"),
+    (LINE, "100", ("best", [0], -2, 4, []), "WeightNotSum 4 2"),
+    (LINE, "100", ("best", [0], -2, 2, [(4, [])]), "BaseDiffers -2 0"),
+    (DIP, "000", ("best", [], 0, 0, []), "BaseDiffers 0 -4"),
+    (DIP, "000", ("best", [], 4, 0, []), "BaseDiffers 4 -4"),
+    (DIP, "000", ("best", [], -4, -4, []), "WeightNotSum -4 0"),
+    (DIP, "000", ("best", [], -4, 0, []), "SumDiffers 0 -4"),
+    (DIP, "000", ("best", [], -4, 0, [(4, [])]), "CutEmpty 0"),
+    (DIP, "000", ("best", [], -4, 0, [(4, [1])]), "Overloaded 0"),
+    (DIP, "000", ("best", [], -4, 0, [(2, [1]), (3, [2])]), "Overloaded 1"),
+    (DIP, "000", ("best", [], -4, 0, [(4, [1, 2])]), "CutEven 0"),
+    (DIP, "000", ("best", [], -4, 0, [(4, [3])]), "CutEven 0"),
+    (DIP, "110", ("best", [1], -4, -4, [(2, [1])]), "CutEven 0"),
+    (DIP, "110", ("best", [1], -4, 4, []), "WeightNotSum 4 -4"),
+    (DIP, "110", ("best", [0, 2, 3], -4, 10, [(2, [1]), (2, [2])]), "CutEven 0"),
+    (DIP, "110", ("best", [0, 2, 3], -4, 10, []), "SumDiffers 10 -4"),
+    (DIP, "100", ("best", [0], -4, 2, [(2, [1])]), "CutEven 0"),
+    (DIP, "100", ("best", [1, 2, 3], -4, 4, [(2, [1, 2, 3]), (2, [2]), (2, [2, 3])]), "SumDiffers 4 2"),
+    (NEGATIVE_TRIANGLE, "000", ("best", [], -6, 0, []), "SumDiffers 0 -6"),
+    (NEGATIVE_TRIANGLE, "100", ("odd", 0), "Good"),
 ]
 
 # Texts of a graph, and the first rule that each breaks.
@@ -105,7 +155,12 @@ GRAPH_TEXTS = [
     (b'{"vertex_num":2,"weighted_edges":[[0,2,2]],"virtual_vertices":[]}', "EndOutOfRange 0"),
     (b'{"vertex_num":2,"weighted_edges":[[1,1,3]],"virtual_vertices":[]}', "SelfLoop 0"),
     (b'{"vertex_num":2,"weighted_edges":[[0,1,-1]],"virtual_vertices":[]}', "OddWeight 0"),
-    (b'{"vertex_num":2,"weighted_edges":[[0,1,-2]],"virtual_vertices":[]}', "NegativeWeight 0"),
+    (b'{"vertex_num":2,"weighted_edges":[[0,1,-2]],"virtual_vertices":[]}', None),
+    (b'{"vertex_num":2,"weighted_edges":[[0,1,-1073741824]],"virtual_vertices":[]}', None),
+    (b'{"vertex_num":2,"weighted_edges":[[0,1,-1073741825]],"virtual_vertices":[]}', "OddWeight 0"),
+    (b'{"vertex_num":2,"weighted_edges":[[0,1,-1073741826]],"virtual_vertices":[]}', "WeightTooSmall 0"),
+    (b'{"vertex_num":2,"weighted_edges":[[0,1,-9223372036854775808]],"virtual_vertices":[]}', "WeightTooSmall 0"),
+    (b'{"vertex_num":2,"weighted_edges":[[0,1,-0]],"virtual_vertices":[]}', "NotWhole weighted_edges 0"),
     (b'{"vertex_num":2,"weighted_edges":[[0,1,1073741826]],"virtual_vertices":[]}', "WeightTooLarge 0"),
     (b'{"vertex_num":2,"weighted_edges":[[0,1,1073741824]],"virtual_vertices":[2]}', "VirtualOutOfRange 0"),
     (b'{"vertex_num":2,"weighted_edges":[],"virtual_vertices":[1,0,1]}', "VirtualRepeated 2"),
@@ -207,22 +262,40 @@ CHANGES = [
     (b'"dynamic_weights":[[0,1073741825]]', "OddShotWeight"),
     (b'"dynamic_weights":[[0,1073741826]]', "ShotWeightTooLarge"),
     (b'"dynamic_weights":[[0,18446744073709551614]]', "ShotWeightTooLarge"),
-    (b'"dynamic_weights":[[0,-2]]', "NegativeShotWeight"),
-    (b'"dynamic_weights":[[0,-9223372036854775808]]', "NegativeShotWeight"),
-    (b'"dynamic_weights":[[0,-2],[4,2]]', "NegativeShotWeight"),
+    (b'"dynamic_weights":[[0,-2]]', [(0, -2)]),
+    (b'"dynamic_weights":[[2,-8],[2,4],[1,-1073741824]]', [(1, -(2**30)), (2, 4)]),
+    (b'"erasures":[2],"dynamic_weights":[[2,-8]]', [(2, 0)]),
+    (b'"dynamic_weights":[[0,-1073741825]]', "OddShotWeight"),
+    (b'"dynamic_weights":[[0,-1073741826]]', "ShotWeightTooSmall"),
+    (b'"dynamic_weights":[[0,-9223372036854775808]]', "ShotWeightTooSmall"),
+    (b'"dynamic_weights":[[0,-1073741826],[0,2]]', "ShotWeightTooSmall"),
+    (b'"dynamic_weights":[[0,-2],[4,2]]', "ShotEdgeOutOfRange"),
 ]
 
-# Defects on the line, changes, a row, its verdict, and the least weight of a correction.
+# Graph, defects, changes, a row, its verdict, and the least weight of a correction: on the line, then changes that turn
+# a sign.
 CHANGED_ROWS = [
-    ([1, 3], [(3, 0)], ("best", [0, 3], 2, [(2, [1])]), "Good", 2),
-    ([2], [(0, 10)], ("best", [2, 3], 8, [(4, [1, 2, 3]), (2, [2]), (2, [2, 3])]), "Good", 8),
-    ([1], [(2, 0)], ("best", [0], 2, [(2, [1])]), "Good", 2),
-    ([1], [(0, 2)], ("best", [0], 2, [(2, [1])]), "Good", 2),
-    ([1, 3], [(3, 0)], ("best", [1, 2], 6, [(2, [1]), (2, [2, 3]), (2, [3])]), "Overloaded 3", 2),
-    ([2], [(0, 10)], ("best", [0, 1], 6, [(2, [1, 2, 3]), (2, [2]), (2, [2, 3])]), "WeightNotSum 6 14", 8),
-    ([2], [(0, 10)], ("best", [0, 1], 14, [(2, [1, 2, 3]), (2, [2]), (2, [2, 3])]), "SumDiffers 14 6", 8),
-    ([1], [(0, 0)], ("best", [0], 0, []), "Good", 0),
-    ([1], [(0, 0)], ("best", [0], 2, [(2, [1])]), "WeightNotSum 2 0", 0),
+    (LINE, [1, 3], [(3, 0)], ("best", [0, 3], 0, 2, [(2, [1])]), "Good", 2),
+    (LINE, [2], [(0, 10)], ("best", [2, 3], 0, 8, [(4, [1, 2, 3]), (2, [2]), (2, [2, 3])]), "Good", 8),
+    (LINE, [1], [(2, 0)], ("best", [0], 0, 2, [(2, [1])]), "Good", 2),
+    (LINE, [1], [(0, 2)], ("best", [0], 0, 2, [(2, [1])]), "Good", 2),
+    (LINE, [1, 3], [(3, 0)], ("best", [1, 2], 0, 6, [(2, [1]), (2, [2, 3]), (2, [3])]), "Overloaded 3", 2),
+    (LINE, [2], [(0, 10)], ("best", [0, 1], 0, 6, [(2, [1, 2, 3]), (2, [2]), (2, [2, 3])]), "WeightNotSum 6 14", 8),
+    (LINE, [2], [(0, 10)], ("best", [0, 1], 0, 14, [(2, [1, 2, 3]), (2, [2]), (2, [2, 3])]), "SumDiffers 14 6", 8),
+    (LINE, [1], [(0, 0)], ("best", [0], 0, 0, []), "Good", 0),
+    (LINE, [1], [(0, 0)], ("best", [0], 0, 2, [(2, [1])]), "WeightNotSum 2 0", 0),
+    (LINE, [], [(1, -4)], ("best", [], -4, 0, [(2, [1]), (2, [2])]), "Good", 0),
+    (LINE, [1, 2], [(1, -4)], ("best", [1], -4, -4, []), "Good", -4),
+    (LINE, [], [(0, -2)], ("best", [], -2, 0, [(2, [1])]), "Good", 0),
+    (LINE, [], [(0, -2), (1, -4), (2, -2), (3, -6)], ("best", [0, 1, 2, 3], -14, -14, []), "Good", -14),
+    (LINE, [1], [(1, -4)], ("best", [0], 0, 2, [(2, [1])]), "BaseDiffers 0 -4", 2),
+    (DIP, [2], [(1, 4)], ("best", [0, 1], 0, 6, [(2, [1, 2, 3]), (2, [2]), (2, [2, 3])]), "Good", 6),
+    (DIP, [], [(1, 4)], ("best", [], -4, 0, [(2, [1]), (2, [2])]), "BaseDiffers -4 0", 0),
+    (DIP, [], [(1, 0)], ("best", [], 0, 0, []), "Good", 0),
+    (DIP, [], [(1, -4)], ("best", [], -4, 0, [(2, [1]), (2, [2])]), "Good", 0),
+    (DIP, [], [(1, -2)], ("best", [], -2, 0, [(1, [1]), (1, [2])]), "Good", 0),
+    (DIP, [1, 2], [(0, -2)], ("best", [1], -6, -4, [(2, [1])]), "Good", -4),
+    (ALL_NEGATIVE, [2], [(0, 2), (1, 4)], ("best", [2, 3], -8, -8, []), "Good", -8),
 ]
 
 ROW_REPORT = b"""fusion-report 1
@@ -237,7 +310,11 @@ done 1 odd 0 units 1 fusions 0
 
 # What is put in the place of a part of that report, and the refusal; None where the text is still a report.
 CHANGED_REPORTS = [
-    (b"report 1", b"report 2", "BadLine 1"),
+    (b"report 1", b"report 2", "BadLine 4"),
+    (b"report 1", b"report 3", "BadLine 1"),
+    (b"weight 6", b"base 0\nweight 6", "BadLine 4"),
+    (b"weight 6", b"weight -6", "BadLine 4"),
+    (b"weight 6", b"weight -0", "BadLine 4"),
     (b"\n", b"\r\n", "BadLine 1"),
     (b"shot 0", b"shot 1", "WrongShot 2"),
     (b"shot 0", b"shot 1 odd 0", "WrongShot 2"),
@@ -266,17 +343,68 @@ CHANGED_REPORTS = [
     (b"fusions 0\n", b"fusions 0\n ", "BadLine 9"),
 ]
 
+SIGNED_REPORT = b"""fusion-report 2
+shot 0 odd 7
+shot 1
+edges 0 1
+base -4
+weight -2
+cut 2 1
+done 2 odd 1 units 1 fusions 0
+"""
+
+# The same for a report of version 2.
+CHANGED_SIGNED_REPORTS = [
+    (b"report 2", b"report 1", "BadLine 5"),
+    (b"report 2", b"report 3", "BadLine 1"),
+    (b"report 2\n", b"report 2\nfusion-report 2\n", "BadLine 2"),
+    (b"base -4\n", b"", "BadLine 5"),
+    (b"base -4\n", b"base -4\nbase -4\n", "BadLine 6"),
+    (b"odd 7\n", b"odd 7\nbase 0\n", "BadLine 3"),
+    (b"edges 0 1\n", b"base -4\n", "BadLine 4"),
+    (b"base -4", b"base 0", None),
+    (b"base -4", b"base 4", None),
+    (b"base -4", b"base -0", "BadLine 5"),
+    (b"base -4", b"base -04", "BadLine 5"),
+    (b"base -4", b"base --4", "BadLine 5"),
+    (b"base -4", b"base +4", "BadLine 5"),
+    (b"base -4", b"base - 4", "BadLine 5"),
+    (b"base -4", b"base -", "BadLine 5"),
+    (b"base -4", b"base", "BadLine 5"),
+    (b"base -4", b"base -4 0", "BadLine 5"),
+    (b"base -4", b"base 9223372036854775807", None),
+    (b"base -4", b"base -9223372036854775807", None),
+    (b"base -4", b"base 9223372036854775808", "BadLine 5"),
+    (b"base -4", b"base -9223372036854775808", "BadLine 5"),
+    (b"base -4", b"base -18446744073709551616", "BadLine 5"),
+    (b"weight -2", b"weight -0", "BadLine 6"),
+    (b"weight -2", b"weight 0", None),
+    (b"weight -2", b"weight +2", "BadLine 6"),
+    (b"weight -2", b"weight 9223372036854775807", None),
+    (b"weight -2", b"weight -9223372036854775807", None),
+    (b"weight -2", b"weight 9223372036854775808", "BadLine 6"),
+    (b"weight -2", b"weight -9223372036854775808", "BadLine 6"),
+    (b"cut 2 1", b"cut -2 1", "BadLine 7"),
+    (b"cut 2 1", b"cut 18446744073709551615 1", None),
+    (b"edges 0 1", b"edges -0 1", "BadLine 4"),
+    (b"shot 1", b"shot -1", "BadLine 3"),
+    (b"done 2", b"done -2", "BadLine 8"),
+]
+
 LINE_TEXT = b'{"vertex_num":5,"weighted_edges":[[0,1,2],[1,2,4],[2,3,2],[3,4,6]],"virtual_vertices":[0,4]}'
+DIP_TEXT = LINE_TEXT.replace(b"[1,2,4]", b"[1,2,-4]")
 PARTS_TEXT = b'{"vertex_num":5,"weighted_edges":[[0,1,2],[1,2,2],[3,4,2]],"virtual_vertices":[4]}'
 NO_TEXT = b'{"vertex_num":0,"weighted_edges":[],"virtual_vertices":[]}'
-EMPTY_REPORT = b"fusion-report 1\nshot 0\nedges\nweight 0\ndone 1 odd 0 units 1 fusions 0\n"
-ODD_REPORT = b"fusion-report 1\nshot 0 odd 1\ndone 1 odd 1 units 0 fusions 0\n"
+EMPTY_REPORT = b"fusion-report 2\nshot 0\nedges\nbase 0\nweight 0\ndone 1 odd 0 units 1 fusions 0\n"
+OLD_EMPTY_REPORT = b"fusion-report 1\nshot 0\nedges\nweight 0\ndone 1 odd 0 units 1 fusions 0\n"
+SIGNED_ROW_REPORT = b"fusion-report 2\nshot 0\nedges 0 1\nbase -4\nweight -2\ncut 2 1\ndone 1 odd 0 units 1 fusions 0\n"
+ODD_REPORT = b"fusion-report 2\nshot 0 odd 1\ndone 1 odd 1 units 0 fusions 0\n"
 
 # The graph's text, the shots' format and text, and what decode answers.
 DECODED = [
     (LINE_TEXT, b"01", b"000\n", Answer(EMPTY_REPORT, b"", 0)),
-    (LINE_TEXT, b"01", b"", Answer(b"fusion-report 1\ndone 0 odd 0 units 0 fusions 0\n", b"", 0)),
-    (LINE_TEXT, b"01", b"1x", Answer(b"fusion-report 1\n", b"fusion: refused BadByte shot 0\n", 2)),
+    (LINE_TEXT, b"01", b"", Answer(b"fusion-report 2\ndone 0 odd 0 units 0 fusions 0\n", b"", 0)),
+    (LINE_TEXT, b"01", b"1x", Answer(b"fusion-report 2\n", b"fusion: refused BadByte shot 0\n", 2)),
     (LINE_TEXT[:-1], b"01", b"1x", Answer(b"", b"fusion: refused NotJson\n", 2)),
     (LINE_TEXT, b"ptb64", b"1x", Answer(b"", b"fusion: unknown format\n", 6)),
     (
@@ -284,7 +412,8 @@ DECODED = [
         b"dets",
         b"shot D0 L0 D2\n\nshot\nshot D1 D1\n",
         Answer(
-            b"fusion-report 1\nshot 0\nedges 1 2\nweight 6\ncut 2 1\ncut 2 2 3\ncut 2 3\nshot 1\nedges\nweight 0\n",
+            b"fusion-report 2\nshot 0\nedges 1 2\nbase 0\nweight 6\ncut 2 1\ncut 2 2 3\ncut 2 3\n"
+            b"shot 1\nedges\nbase 0\nweight 0\n",
             b"fusion: refused RepeatedIndex shot 2\n",
             2,
         ),
@@ -294,7 +423,8 @@ DECODED = [
         b"01",
         b"1110\n0001\n",
         Answer(
-            b"fusion-report 1\nshot 0 odd 0\nshot 1\nedges 2\nweight 2\ncut 2 3\ndone 2 odd 1 units 1 fusions 0\n",
+            b"fusion-report 2\nshot 0 odd 0\nshot 1\nedges 2\nbase 0\nweight 2\ncut 2 3\n"
+            b"done 2 odd 1 units 1 fusions 0\n",
             b"",
             1,
         ),
@@ -304,7 +434,37 @@ DECODED = [
         b"01",
         b"\n\n",
         Answer(
-            b"fusion-report 1\nshot 0\nedges\nweight 0\nshot 1\nedges\nweight 0\ndone 2 odd 0 units 2 fusions 0\n",
+            b"fusion-report 2\nshot 0\nedges\nbase 0\nweight 0\nshot 1\nedges\nbase 0\nweight 0\n"
+            b"done 2 odd 0 units 2 fusions 0\n",
+            b"",
+            0,
+        ),
+    ),
+]
+
+# The graph's text, a plan, the text of json shots, and what decode answers: a negative edge across a seam and at a
+# virtual vertex, and a wholly negative graph.
+SEAM_PLAN = b'{"units":[[[0,2]],[[3,5]]],"fusions":[{"of":[0,1],"interface":[[2,3]]}]}'
+PLANNED = [
+    (
+        DIP_TEXT,
+        SEAM_PLAN,
+        b'{"defect_vertices":[]}\n{"defect_vertices":[1,2]}\n',
+        Answer(
+            b"fusion-report 2\nshot 0\nedges\nbase -4\nweight 0\ncut 2 1\ncut 2 2\n"
+            b"shot 1\nedges 1\nbase -4\nweight -4\ndone 2 odd 0 units 4 fusions 2\n",
+            b"",
+            0,
+        ),
+    ),
+    (
+        LINE_TEXT,
+        SEAM_PLAN,
+        b'{"defect_vertices":[],"dynamic_weights":[[0,-2]]}\n'
+        b'{"defect_vertices":[],"dynamic_weights":[[0,-2],[1,-4],[2,-2],[3,-6]]}\n',
+        Answer(
+            b"fusion-report 2\nshot 0\nedges\nbase -2\nweight 0\ncut 2 1\n"
+            b"shot 1\nedges 0 1 2 3\nbase -14\nweight -14\ndone 2 odd 0 units 4 fusions 2\n",
             b"",
             0,
         ),
@@ -332,6 +492,14 @@ CHECKED = [
         ODD_REPORT,
         Answer(b"check-report 1\nshot 0 bad OddWrong 1\nrows 1 shots 1 bad 1\n", b"", 1),
     ),
+    (DIP_TEXT, b"010", SIGNED_ROW_REPORT, Answer(b"check-report 1\nshot 0 good\nrows 1 shots 1 bad 0\n", b"", 0)),
+    (
+        DIP_TEXT,
+        b"000\n",
+        OLD_EMPTY_REPORT,
+        Answer(b"check-report 1\nshot 0 bad BaseDiffers 0 -4\nrows 1 shots 1 bad 1\n", b"", 1),
+    ),
+    (LINE_TEXT, b"000\n", OLD_EMPTY_REPORT, Answer(b"check-report 1\nshot 0 good\nrows 1 shots 1 bad 0\n", b"", 0)),
     (LINE_TEXT, b"x", ODD_REPORT[:-1], Answer(b"", b"fusion: refused Unfinished\n", 2)),
     (
         LINE_TEXT,
@@ -361,15 +529,18 @@ def defects_of(graph, record):
 
 
 def known_rows():
-    for parts, record, edges, weight, cuts in BEST_ROWS:
+    best = [(parts, record, edges, 0, weight, cuts) for parts, record, edges, weight, cuts in BEST_ROWS]
+    for parts, record, edges, base, weight, cuts in best + SIGNED_ROWS:
         graph = graph_of(parts)
         defects = defects_of(graph, record)
-        name = f"{record} on {len(graph.edges)} edges"
-        yield name, oracle.verdict(graph, defects, ("best", edges, weight, cuts)), "Good"
+        name = f"{record} on {graph.edges}"
+        yield name, oracle.verdict(graph, defects, ("best", edges, base, weight, cuts)), "Good"
         yield f"{name}, least weight", oracle.LeastWeights(graph).of(Shot(defects)), weight
         yield f"{name}, odd component", oracle.odd_component(graph, defects), None
-        others = [("weight above", ("best", edges, weight + 2, cuts))]
-        others += [("a cut fewer", ("best", edges, weight, cuts[1:]))] if cuts else []
+        others = [("weight above", ("best", edges, base, weight + 2, cuts))]
+        others += [("base below", ("best", edges, base - 2, weight, cuts))]
+        others += [("base above", ("best", edges, base + 2, weight, cuts))]
+        others += [("a cut fewer", ("best", edges, base, weight, cuts[1:]))] if cuts else []
         for how, row in others:
             yield f"{name}, {how}", oracle.verdict(graph, defects, row) == "Good", False
     for parts, record, row, answer in JUDGED_ROWS:
@@ -381,12 +552,37 @@ def known_rows():
 
 
 def known_changed_rows():
-    line = graph_of(LINE)
-    for defects, changes, row, answer, least in CHANGED_ROWS:
-        shot = Shot(defects, tuple(changes))
-        yield f"{shot}: {row}", oracle.verdict(oracle.shot_graph(line, shot), defects, row), answer
-        yield f"{shot}, least weight", oracle.LeastWeights(line).of(shot), least
-        yield f"{shot}, complaint", oracle.complaint(line, shot, list(row), None) is None, answer == "Good"
+    for parts, defects, changes, row, answer, least in CHANGED_ROWS:
+        graph, shot = graph_of(parts), Shot(defects, tuple(changes))
+        yield f"{shot}: {row}", oracle.verdict(oracle.shot_graph(graph, shot), defects, row), answer
+        yield f"{shot}, least weight", oracle.LeastWeights(graph).of(shot), least
+        yield f"{shot}, complaint", oracle.complaint(graph, shot, list(row), None) is None, answer == "Good"
+
+
+def known_shifts():
+    """Of each way to sign the edges of small graphs, by all sets of edges: a least correction of a shot, with the
+    signs, weighs the base more than one of the shifted defects does without them; both have the same odd component. The
+    signs are the graph's, or the shot turns those of the graph without signs, or of the wholly negative one."""
+    for parts in [LINE, TRIANGLE, TWO_PARTS, PAIR, BETWEEN_VIRTUALS]:
+        plain = graph_of(parts)._replace(edges=[(u, v, abs(weight)) for u, v, weight in parts[1]])
+        lowest = plain._replace(edges=[(u, v, -weight) for u, v, weight in plain.edges])
+        least, from_plain, from_lowest = map(oracle.LeastWeights, [plain, plain, lowest])
+        for signs in itertools.product([1, -1], repeat=len(plain.edges)):
+            graph = plain._replace(edges=[(u, v, sign * weight) for sign, (u, v, weight) in zip(signs, plain.edges)])
+            signed = oracle.LeastWeights(graph)
+            base = sum(weight for _, _, weight in graph.edges if weight < 0)
+            weights = [(sign, e, weight) for e, (sign, (_, _, weight)) in enumerate(zip(signs, graph.edges))]
+            turns = [tuple((e, weight) for sign, e, weight in weights if sign == turned) for turned in [-1, 1]]
+            for record in itertools.product("01", repeat=plain.vertices - len(plain.virtuals)):
+                defects = defects_of(graph, "".join(record))
+                shifted, weight = oracle.shifted_defects(graph, defects), signed.of(Shot(defects))
+                name = f"{signs} of {parts} at {defects}"
+                known = least.of(Shot(shifted))
+                yield name, weight, None if known is None else base + known
+                yield f"{name}, base", oracle.base_of(graph), base
+                yield f"{name}, odd", oracle.odd_component(graph, shifted), oracle.odd_component(graph, defects)
+                yield f"{name}, turned down", from_plain.of(Shot(defects, turns[0])), weight
+                yield f"{name}, turned up", from_lowest.of(Shot(defects, turns[1])), weight
 
 
 def known_texts():
@@ -399,16 +595,22 @@ def known_texts():
         text = b'{"defect_vertices":[]%s}' % (b"," * bool(members) + members)
         read = ([], f"{found} shot 0") if isinstance(found, str) else ([Shot([], tuple(found))], None)
         yield f"json {text[:70]}", read_shots("json", text, graph_of(LINE)), read
-    for old, new, fault in CHANGED_REPORTS:
-        yield f"{old} as {new}", refusal_of(read_report, ROW_REPORT.replace(old, new)), fault
-    for at in range(len(ROW_REPORT)):
-        yield f"{at} bytes of a report", refusal_of(read_report, ROW_REPORT[:at]), "Unfinished"
+    for report, changes in [(ROW_REPORT, CHANGED_REPORTS), (SIGNED_REPORT, CHANGED_SIGNED_REPORTS)]:
+        for old, new, fault in changes:
+            yield f"{old} as {new}", refusal_of(read_report, report.replace(old, new)), fault
+        for at in range(len(report)):
+            yield f"{at} bytes of a report", refusal_of(read_report, report[:at]), "Unfinished"
+    yield "rows of version 1", read_report(ROW_REPORT).rows, [["best", [1, 2], 0, 6, [(2, [1]), (1, [2, 3]), (3, [3])]]]
+    yield "rows of version 2", read_report(SIGNED_REPORT).rows, [["odd", 7], ["best", [0, 1], -4, -2, [(2, [1])]]]
 
 
 def known_answers():
     """What the oracle finds wrong with answers that are right, and whether it finds something wrong with others."""
     names = [b"--graph", b"graph.json", b"--shots", b"shots", b"--format"]
     cases = [([b"decode", *names, form], {"graph.json": g, "shots": s}, answer) for g, form, s, answer in DECODED]
+    for graph, plan, shots, answer in PLANNED:
+        files = {"graph.json": graph, "plan.json": plan, "shots": shots}
+        cases.append(([b"decode", *names, b"json", b"--plan", b"plan.json"], files, answer))
     for graph, shots, report, answer in CHECKED:
         files = {"graph.json": graph, "shots": shots, "report": report}
         cases.append(([b"check", *names, b"01", b"--report", b"report"], files, answer))
@@ -423,7 +625,8 @@ def known_answers():
 
 def events_text(lines):
     """A report of one shot and these events."""
-    return "\n".join(["fusion-report 1", "shot 0", "edges", "weight 0", *lines, "done 1 odd 0 units 2 fusions 1\n"]).encode()
+    row = ["shot 0", "edges", "base 0", "weight 0"]
+    return "\n".join(["fusion-report 2", *row, *lines, "done 1 odd 0 units 2 fusions 1\n"]).encode()
 
 
 def known_events():
@@ -457,7 +660,7 @@ def known_events():
 
 def main():
     passed = failed = 0
-    for part in [known_rows(), known_changed_rows(), known_texts(), known_answers(), known_events()]:
+    for part in [known_rows(), known_changed_rows(), known_shifts(), known_texts(), known_answers(), known_events()]:
         for name, found, known in part:
             if found == known:
                 passed += 1

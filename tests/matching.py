@@ -4,6 +4,10 @@ A correction of least weight is a set of shortest paths that pair some defects w
 the boundary. Few defects are paired by trying all pairings, many by the blossom algorithm on a dense graph (Edmonds
 1965, in the form that takes time cubic in the number of nodes), in which each defect has a copy of its own for the
 boundary and all copies can be paired for nothing.
+
+Where edges weigh less than 0, a correction is told by the edges in which it differs from these. To take such an edge
+out costs its weight without sign, as to put another one in does. So these edges correct the defects that the negative
+ones leave.
 """
 
 import heapq
@@ -18,13 +22,22 @@ class Matchings:
     def __init__(self, vertices, edges, virtuals):
         self.virtuals = set(virtuals)
         self.neighbours = [[] for _ in range(vertices)]
+        self.base, self.left = 0, set()
         for u, v, weight in edges:
-            self.neighbours[u].append((v, weight))
-            self.neighbours[v].append((u, weight))
+            self.neighbours[u].append((v, abs(weight)))
+            self.neighbours[v].append((u, abs(weight)))
+            if weight < 0:
+                self.base += weight
+                self.left ^= {u, v} - self.virtuals
         self.lengths = {}
 
     def least_weight(self, defects):
         """The least weight of a correction; None where there is none."""
+        least = self.least_of_plain(sorted(self.left ^ set(defects)))
+        return None if least is None else self.base + least
+
+    def least_of_plain(self, defects):
+        """The same with all weights without sign."""
         reached = [self.lengths_from(defect) for defect in defects]
         pairs = [[lengths.get(other) for other in defects] for lengths in reached]
         alone = [min((lengths[v] for v in self.virtuals if v in lengths), default=None) for lengths in reached]

@@ -4,7 +4,7 @@
 Nothing here is shared with the program. A graph is a list of edges, a correction a list of edge numbers, a cut a value
 and a list of vertices; each definition is a loop over them, and the least weight of a correction is found by trying
 every set of edges. That an odd-cut packing bounds every correction from below is Edmonds' theorem (1965) in the form of
-Edmonds and Johnson (1973).
+Edmonds and Johnson (1973). Where weights are negative, it bounds the sets of edges that differ from the negative ones.
 
 Run as a program, it judges rows and texts whose answers are known, and fails where it finds another.
 """
@@ -19,6 +19,7 @@ from predictions import TEXTS, predictions_text, read_observables
 from readers import RECORDS, Refused, read_graph, read_plan, read_report, read_shots, whole_plan
 from traces import trace_complaints
 
+HEAD = b"fusion-report 2\n"
 MOST_TRIED_EDGES = 12
 MOST_TRIED_VERTICES = 100
 
@@ -33,10 +34,25 @@ def odd_vertices(graph, edges):
 
 
 def weight_of(graph, edges):
+    """What some edges weigh, with sign."""
     total = 0
     for e in edges:
         total += graph.edges[e][2]
     return total
+
+
+def negative_edges(graph):
+    return [e for e, (_, _, weight) in enumerate(graph.edges) if weight < 0]
+
+
+def base_of(graph):
+    """The sum of the negative weights: no set of edges weighs less."""
+    return weight_of(graph, negative_edges(graph))
+
+
+def shifted_defects(graph, defects):
+    """The vertices that aren't virtual at which the negative edges and the defect are together odd in number."""
+    return sorted(set(defects) ^ set(odd_vertices(graph, negative_edges(graph))))
 
 
 def shot_graph(graph, shot):
@@ -113,8 +129,9 @@ def load(graph, cuts, e):
 
 
 def first_overloaded(graph, cuts):
+    """The first edge whose load is above its weight without sign; None where there is none."""
     for e in range(len(graph.edges)):
-        if load(graph, cuts, e) > graph.edges[e][2]:
+        if load(graph, cuts, e) > abs(graph.edges[e][2]):
             return e
     return None
 
@@ -127,16 +144,19 @@ def verdict(graph, defects, row):
     """The first rule that a row breaks, else Good."""
     if row[0] == "odd":
         return "Good" if odd_component(graph, defects) == row[1] else f"OddWrong {row[1]}"
-    _, edges, weight, cuts = row
+    _, edges, base, weight, cuts = row
     fault = edges_verdict(graph, defects, edges, weight)
+    if not fault and base != base_of(graph):
+        fault = f"BaseDiffers {base} {base_of(graph)}"
+    shifted = shifted_defects(graph, defects)
     for j in range(len(cuts)):
-        fault = fault or cut_verdict(graph, defects, cuts, j)
+        fault = fault or cut_verdict(graph, shifted, cuts, j)
     if fault:
         return fault
     overloaded = first_overloaded(graph, cuts)
     if overloaded is not None:
         return f"Overloaded {overloaded}"
-    total = sum(value for value, _ in cuts)
+    total = base + sum(value for value, _ in cuts)
     if total != weight:
         return f"SumDiffers {weight} {total}"
     return "Good"
@@ -157,7 +177,7 @@ def edges_verdict(graph, defects, edges, weight):
     return None
 
 
-def cut_verdict(graph, defects, cuts, j):
+def cut_verdict(graph, shifted, cuts, j):
     _, vertices = cuts[j]
     if not vertices:
         return f"CutEmpty {j}"
@@ -169,7 +189,7 @@ def cut_verdict(graph, defects, cuts, j):
     for vertex in vertices:
         if vertex in graph.virtuals:
             return f"CutHoldsVirtual {vertex}"
-    if sum(defect in vertices for defect in defects) % 2 == 0:
+    if sum(vertex in vertices for vertex in shifted) % 2 == 0:
         return f"CutEven {j}"
     return None
 
@@ -187,8 +207,8 @@ def complaint(graph, shot, row, least):
     answer = verdict(shot_graph(graph, shot), shot.defects, row)
     if answer != "Good":
         return f"{answer}: {row}"
-    if least is not None and row[2] != least.of(shot):
-        return f"weight {row[2]} where the least is {least.of(shot)}"
+    if least is not None and row[3] != least.of(shot):
+        return f"weight {row[3]} where the least is {least.of(shot)}"
     return None
 
 
@@ -197,6 +217,8 @@ def report_complaints(graph, shots, is_whole, text, items=(1, 0)):
     fusions each correction counts."""
     odd = sum(odd_component(graph, shot.defects) is not None for shot in shots)
     last = b"" if is_whole else b"done %d odd %d units 0 fusions 0\n" % (len(shots), odd)
+    if not text.startswith(HEAD):
+        return ["no report of version 2"]
     try:
         report = read_report(text + last)
     except Refused as fault:
@@ -347,7 +369,7 @@ def decode_complaints(options, files, answer):
     graph = read_graph(opened(files, options["--graph"]))
     plan = read_plan(opened(files, options["--plan"]), graph) if "--plan" in options else whole_plan(graph)
     if options["--shots"] not in files:
-        return differences(answer, b"fusion-report 1\n", b"fusion: read fault\n", 3)
+        return differences(answer, HEAD, b"fusion: read fault\n", 3)
     shots, fault = read_shots(options["--format"], files[options["--shots"]], graph)
     complaints = report_complaints(graph, shots, fault is None, answer.stdout, (plan.units, plan.fusions))
     complaints += events_complaints(options, plan, graph, shots, answer.stdout)

@@ -172,8 +172,8 @@ def build_graph(vertices, edges, virtuals):
             raise Refused(f"OddWeight {i}")
         if weight > MOST_WEIGHT:
             raise Refused(f"WeightTooLarge {i}")
-        if weight < 0:
-            raise Refused(f"NegativeWeight {i}")
+        if weight < -MOST_WEIGHT:
+            raise Refused(f"WeightTooSmall {i}")
     seen = set()
     for i, vertex in enumerate(virtuals):
         if vertex >= vertices:
@@ -439,8 +439,8 @@ def changes_of(value, graph):
             raise Refused("OddShotWeight")
         if weight > MOST_WEIGHT:
             raise Refused("ShotWeightTooLarge")
-        if weight < 0:
-            raise Refused("NegativeShotWeight")
+        if weight < -MOST_WEIGHT:
+            raise Refused("ShotWeightTooSmall")
     changes = {**dict(pairs), **dict.fromkeys(erasures, 0)}
     return tuple(sorted(changes.items()))
 
@@ -455,17 +455,19 @@ RECORDS = {
 }
 
 
-# The report. A row is ["best", edges, weight, cuts] or ["odd", vertex]; a cut is a value and its vertices.
+# The report. A row is ["best", edges, base, weight, cuts] or ["odd", vertex]; a cut is a value and its vertices.
 
 Report = namedtuple("Report", "rows odd units fusions")
 
 NUMBER = "(0|[1-9][0-9]*)"
 NUMBERS = "((?: (?:0|[1-9][0-9]*))*)"
-SMALL, LARGE = 2**32, 2**64
+SIGNED = "(0|-?[1-9][0-9]*)"
+SMALL, LARGE, SIGNED_LARGE = 2**32, 2**64, 2**63
+HEADS = {b"fusion-report 1": 1, b"fusion-report 2": 2}
 
 
 def form(text, *limits):
-    """What reads a line of a form: its numbers, each below its limit, or None."""
+    """What reads a line of a form: its numbers, each below its limit, whatever its sign, or None."""
     pattern = re.compile(text.encode())
 
     def read(line):
@@ -473,7 +475,7 @@ def form(text, *limits):
         if not found:
             return None
         parts = [[number_of(word) for word in part.split()] for part in found.groups()]
-        if any(number >= limit for part, limit in zip(parts, limits) for number in part):
+        if any(abs(number) >= limit for part, limit in zip(parts, limits) for number in part):
             return None
         return parts
 
@@ -487,7 +489,8 @@ def number_of(digits):
 SHOT = form(f"shot {NUMBER}", SMALL)
 ODD = form(f"shot {NUMBER} odd {NUMBER}", SMALL, SMALL)
 EDGES = form(f"edges{NUMBERS}", SMALL)
-WEIGHT = form(f"weight {NUMBER}", LARGE)
+BASE = form(f"base {SIGNED}", SIGNED_LARGE)
+WEIGHTS = {1: form(f"weight {NUMBER}", LARGE), 2: form(f"weight {SIGNED}", SIGNED_LARGE)}
 CUT = form(f"cut ([1-9][0-9]*){NUMBERS}", LARGE, SMALL)
 TRACE = form(f"(?:took|gave) {NUMBER} {NUMBER} {NUMBER}", SMALL, SMALL, SMALL)
 DONE = form(f"done {NUMBER} odd {NUMBER} units {NUMBER} fusions {NUMBER}", LARGE, LARGE, LARGE, LARGE)
@@ -498,9 +501,9 @@ def read_report(text):
     if len(text) > MOST_REPORT_BYTES:
         raise Refused("TooLong report")
     *lines, rest = text.split(b"\n")
-    rows, place = [], "start"
+    rows, place, version = [], "start", HEADS.get(lines[0]) if lines else None
     for n, line in enumerate(lines, 1):
-        place = next_place(place, line, rows)
+        place = next_place(place, line, rows, version)
         if place in ["BadLine", "WrongShot"]:
             raise Refused(f"{place} {n}")
         if place == "done":
@@ -510,22 +513,28 @@ def read_report(text):
     raise Refused("Unfinished")
 
 
-def next_place(place, line, rows):
-    """The place after a line, whose row or part of a row is added to the rows; or how the line is wrong."""
+def next_place(place, line, rows, version):
+    """The place after a line, whose row or part of a row is added to the rows; or how the line is wrong. Version 1 has
+    no line of a base, which is 0."""
     if place == "start":
-        return "head" if line == b"fusion-report 1" else "BadLine"
+        return "head" if version else "BadLine"
     if place == "shot":
         if not (edges := EDGES(line)):
             return "BadLine"
-        rows[-1] += edges
-        return "edges"
+        rows[-1] += edges + ([0] if version == 1 else [])
+        return "edges" if version == 2 else "base"
     if place == "edges":
-        if not (weight := WEIGHT(line)):
+        if not (base := BASE(line)):
+            return "BadLine"
+        rows[-1] += base[0]
+        return "base"
+    if place == "base":
+        if not (weight := WEIGHTS[version](line)):
             return "BadLine"
         rows[-1] += weight[0] + [[]]
         return "cuts"
     if place == "cuts" and (cut := CUT(line)):
-        rows[-1][3].append((cut[0][0], cut[1]))
+        rows[-1][4].append((cut[0][0], cut[1]))
         return "cuts"
     if place != "head" and TRACE(line):
         return "row"

@@ -19,6 +19,12 @@ def uneven(draw, code):
     return codes.Code(errors, code.coordinates, code.observables)
 
 
+def likely(draw, code):
+    """A code of whose errors some are as likely as they were unlikely before."""
+    errors = [codes.Error(draw.choice([rate, rate, 1 - rate]), *effect) for rate, *effect in code.errors]
+    return codes.Code(errors, code.coordinates, code.observables)
+
+
 class EveryCorrection:
     """The least weight of a correction of each set of detectors that flips each set of observables, by every set of edges."""
 
@@ -79,6 +85,8 @@ def digits(numbers, width):
 def samples(draw, count):
     yield "repetition code", Sample(uneven(draw, codes.repetition_code(3, 2, 0.08)), count)
     yield "surface code", Sample(uneven(draw, codes.surface_code(3, 1, 0.05)), count)
+    code = likely(draw, uneven(draw, codes.repetition_code(3, 2, 0.08)))
+    yield "errors that are likelier than not", Sample(code, count)
     yield "two observables", Sample(uneven(draw, two_observables(codes.repetition_code(5, 1, 0.08))), count)
     yield "a model as Stim writes it", Sample(code_of(REPEATED), count, REPEATED)
 

@@ -6,6 +6,7 @@ usage: examples/erasures/count.py FLIPS PREDICTED..
 The bounds hold a rate with a probability of 95 % (Wilson's score).
 """
 
+import signal
 import sys
 from pathlib import Path
 
@@ -14,6 +15,10 @@ from busvroh.counting import Count
 
 
 def main():
+    if len(sys.argv) < 3:
+        raise SystemExit(__doc__)
+    # A reader that leaves early ends the script, as it ends any filter.
+    signal.signal(signal.SIGPIPE, signal.SIG_DFL)
     files = [Path(name) for name in sys.argv[1:]]
     true, *predicted = [file.read_text().splitlines() for file in files]
     if any(len(flips) != len(true) for flips in predicted):

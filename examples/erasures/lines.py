@@ -37,6 +37,8 @@ def line_of(record, detectors, erasures, pairs):
 
 
 def main():
+    if len(sys.argv) != 3:
+        raise SystemExit(__doc__)
     # A reader that leaves early ends the script, as it ends any filter.
     signal.signal(signal.SIGPIPE, signal.SIG_DFL)
     graph, table = (json.loads(Path(name).read_text()) for name in sys.argv[1:])

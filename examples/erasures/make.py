@@ -53,6 +53,8 @@ def shots(draw, effects):
 
 
 def main():
+    if len(sys.argv) != 2:
+        raise SystemExit(__doc__)
     folder, all_edges, draw = Path(sys.argv[1]), list(edges()), random.Random(1)
     detectors = [v for v in range(VERTICES) if not is_virtual(v)]
     # The logical observable is flipped by the edges at the first column.

@@ -49,6 +49,8 @@ def even_weight(rate):
 
 
 def main():
+    if len(sys.argv) != 2:
+        raise SystemExit(__doc__)
     folder = Path(sys.argv[1])
     vertices = ROUNDS * DISTANCE * COLUMNS
     virtuals = [v for v in range(vertices) if is_virtual(v)]

@@ -8,10 +8,11 @@ If no cycle of inner edges flips the observable, a correction's class is told by
 the boundary: the edges that end at one side of it flip, those at the other don't. One side stays virtual, and the other
 becomes a real vertex. So a shot without a defect there and the same shot with one have corrections of one class each.
 
-What the weight of an edge exceeds the values of the cuts that it crosses by is its residue. Each correction weighs at least
-what the cuts add up to and the residues of its edges. A lightest one has none, and one of the other class differs from it by a
-path from one side to the other at least. So the shortest such path, with the residues as lengths, is a lower bound of the
-gap. It is the least weight of a shot itself, whose only defect is the one side, and so has a certificate of its own.
+What the weight of an edge, without its sign, exceeds the values of the cuts that it crosses by is its residue. Each
+correction weighs at least what the base and the cuts add up to and the residues of the edges in which it differs from
+the negative ones. A lightest one has none, and one of the other class differs from it by a path from one side to the
+other at least. So the shortest such path, with the residues as lengths, is a lower bound of the gap. It is the least
+weight of a shot itself, whose only defect is the one side, and so has a certificate of its own.
 """
 
 import heapq
@@ -29,7 +30,7 @@ class Sides:
 
     def __init__(self, graph, observable=None):
         self.boundary, self.edges = graph["virtual_vertices"][0], graph["weighted_edges"]
-        self.other_side = graph["vertex_num"]
+        self.other_side, self.weights = graph["vertex_num"], [weight for _, _, weight in self.edges]
         flipping = set(chosen(graph["observables"], observable))
         turned = self.turned_vertices(flipping)
         # The detectors that change which class is which, as bits.
@@ -71,12 +72,9 @@ class Sides:
                 found[u].append(edge in flipping)
         return found
 
-    def graph(self, weighted_edges=None, times=1):
-        """The graph with these weights, or its own, multiplied."""
-        weights = [times * weight for _, _, weight in weighted_edges or self.edges]
-        if max(weights, default=0) > MOST_WEIGHT:
-            raise ModelError(f"{times} times a weight is above {MOST_WEIGHT}, the limit: take a smaller scale")
-        edges = [[*ends, weight] for ends, weight in zip(self.ends, weights)]
+    def graph(self, weights=None):
+        """The graph with these weights, or its own."""
+        edges = [[*ends, weight] for ends, weight in zip(self.ends, weights or self.weights)]
         return {"vertex_num": self.other_side + 1, "weighted_edges": edges, "virtual_vertices": [self.boundary]}
 
     def flips(self, detectors):
@@ -95,10 +93,10 @@ def chosen(observables, number):
 
 
 class Residues:
-    """The bound from the cuts of a row."""
+    """The bound from the cuts of a row. Weights are without sign."""
 
     def __init__(self, sides):
-        self.sides, self.weights = sides, [weight for _, _, weight in sides.edges]
+        self.sides, self.weights = sides, [*map(abs, sides.weights)]
         self.incident = [[] for _ in range(sides.other_side + 1)]
         for edge, (u, v) in enumerate(sides.ends):
             self.incident[u].append((self.weights[edge], v, edge))
@@ -117,9 +115,14 @@ class Residues:
                         loads[edge] += value
         return loads
 
+    def graph(self):
+        """The graph of doubled weights: residues may be odd, and weights of a graph are even."""
+        if 2 * max(self.weights, default=0) > MOST_WEIGHT:
+            raise ModelError(f"2 times a weight is above {MOST_WEIGHT}, the limit: take a smaller scale")
+        return self.sides.graph([2 * weight for weight in self.weights])
+
     def shot(self, loads):
-        """The shot, as JSON, whose least weight in the graph of doubled weights is twice the bound. Residues may be odd, and
-        weights are even."""
+        """The shot, as JSON, whose least weight in the graph of doubled weights is twice the bound."""
         changes = (f"[{edge},{2 * (self.weights[edge] - load)}]" for edge, load in sorted(loads.items()))
         return f'{{"defect_vertices":[{self.sides.other_side}],"dynamic_weights":[{",".join(changes)}]}}'
 

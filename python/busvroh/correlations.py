@@ -6,9 +6,9 @@
     changes = correlations.changes([3, 8])
 
 In a graph the parts of an error are edges that fail independently. But where a correction uses one part, this error is
-likelier than before, and so are its other parts; where it doesn't, they are less likely. There are two rules. With both a
-rate is at most 1/2, so that no weight is below 0, and an edge whose errors have one part each weighs what it weighs in the
-graph.
+likelier than before, and so are its other parts; where it doesn't, they are less likely. There are two rules. With both
+a rate is at most 1/2, or that in the graph if it is above, so that a weight is below 0 only where it is in the graph;
+and an edge whose errors have one part each weighs what it weighs in the graph.
 
 `bayes`: the rate of each error is that on condition that each of its other edges fails where it is used, and doesn't
 where it isn't. An edge fails if an odd number of its errors happens at these rates. So edges are heavier than in the
@@ -29,9 +29,9 @@ MOST_KNOWN = 1 << 20
 SAME = "-"
 
 
-def even_weight(rate, scale):
-    """The weight of a rate, where one above 1/2 counts as 1/2, and none exceeds the limit of a graph."""
-    rate = min(max(rate, LEAST_RATE**2), 1 / 2)
+def even_weight(rate, scale, most):
+    """The weight of a rate, where one above `most` counts as `most`, and none exceeds the limit of a graph."""
+    rate = min(max(rate, LEAST_RATE**2), most)
     return min(weight_of(rate, scale, 0), MOST_WEIGHT)
 
 
@@ -102,16 +102,21 @@ class Correlations:
         edges = model.graph(scale)["weighted_edges"]
         rates = [rate for *_, rate, _ in model.edges()]
         self.rule = Bayes(mechanisms, len(edges)) if rule == "bayes" else Lighter(mechanisms, rates)
+        self.most = [max(rate, 1 / 2) for rate in rates]
         beside = defaultdict(set)
         for together, _ in mechanisms:
             for edge in together:
                 beside[edge].update(other for other in together if other != edge)
         self.beside = {edge: sorted(others) for edge, others in beside.items() if others}
         self.weighted_edges = [
-            [u, v, even_weight(self.rule.rate(edge, ()), scale) if edge in self.beside else weight]
+            [u, v, self.weight(edge, ()) if edge in self.beside else weight]
             for edge, (u, v, weight) in enumerate(edges)
         ]
         self._texts = {}
+
+    def weight(self, edge, used):
+        """The weight of an edge where of the edges beside it these are used."""
+        return even_weight(self.rule.rate(edge, used), self.scale, self.most[edge])
 
     def changes(self, used):
         """The edges that weigh otherwise where a correction uses these edges, and their weights, as JSON."""
@@ -127,6 +132,6 @@ class Correlations:
         if len(self._texts) >= MOST_KNOWN:
             self._texts.clear()
         edge, used = each
-        weight = even_weight(self.rule.rate(edge, used), self.scale)
+        weight = self.weight(edge, used)
         self._texts[each] = SAME if weight == self.weighted_edges[edge][2] else f"[{edge},{weight}]"
         return self._texts[each]

@@ -63,16 +63,16 @@ class Gaps(Decoding):
     def prepare(self, model, graph):
         if self.detectors == 0:
             raise ModelError("a model without detectors: there is nothing to be sure of")
-        self.sides, self.weighted_edges = Sides(graph, self.observable), None
+        self.sides, self.weights = Sides(graph, self.observable), None
         self.flipping = Observables([chosen(graph["observables"], self.observable)])
         if self.settings.correlated:
             self.correlations = Correlations(model, self.settings.scale, self.settings.rule)
-            self.weighted_edges = self.correlations.weighted_edges
+            self.weights = [weight for _, _, weight in self.correlations.weighted_edges]
 
     def write_graphs(self, folder):
         if self.settings.correlated:
             super().write_graphs(folder)
-        write_graph(folder / SIDES_GRAPH, self.sides.graph(self.weighted_edges))
+        write_graph(folder / SIDES_GRAPH, self.sides.graph(self.weights))
 
     # Gaps.
 
@@ -125,13 +125,14 @@ class Gaps(Decoding):
     def bounds_of_shots(self, shots, folder, keep=False):
         """The bound of each shot, by the cuts of its correction."""
         super().write_graphs(folder)
-        write_graph(folder / BOUND_GRAPH, self.sides.graph(times=2))
+        residues = Residues(self.sides)
+        write_graph(folder / BOUND_GRAPH, residues.graph())
         place = lambda name: folder / name if keep else None
         noted, program = deque(), self.settings.program
         with contextlib.ExitStack() as runs:
             records = (detectors.to_bytes(self.shot_bytes, "little") for detectors in shots)
             first = runs.enter_context(Fed(program, folder / GRAPH, "b8", records, place("first")))
-            lines = self.lines_of_bounds(first, noted)
+            lines = self.lines_of_bounds(first, residues, noted)
             second = runs.enter_context(Fed(program, folder / BOUND_GRAPH, "json", lines, place("bound")))
             for row in second.rows():
                 bound = noted.popleft()
@@ -139,8 +140,7 @@ class Gaps(Decoding):
                     bound = bound._replace(bound=math.inf if row is ODD else row.weight // 2)
                 yield bound
 
-    def lines_of_bounds(self, first, noted):
-        residues = Residues(self.sides)
+    def lines_of_bounds(self, first, residues, noted):
         for row in first.rows(RowsWithCuts):
             if row is ODD:
                 noted.append(ODD_BOUND)

@@ -115,7 +115,8 @@ class Model:
     def graph(self, scale=DEFAULT_SCALE):
         """The graph as `fusion` reads it, whose member `observables` lists the edges of each observable.
 
-        A weight is the logarithm of the odds against an error, times the scale, as the nearest even whole number.
+        A weight is the logarithm of the odds against an error, times the scale, as the nearest even whole number. It is
+        below 0 where the error is likelier than not, so that a correction gains by it, and 0 at a rate of 1/2.
         """
         if not 0 < scale < math.inf:
             raise ModelError(f"a scale of {scale}: it has to be above 0")
@@ -134,12 +135,12 @@ class Model:
 
 def weight_of(rate, scale, line):
     """The weight of an edge whose first error is at a line."""
-    odds = math.log1p(-rate) - math.log(rate) if rate < 1 else -math.inf
-    half = scale * odds / 2
-    if half < -1 / 2:
-        raise error_at(line, f"a rate of {rate:.6g} in all, above 1/2: its weight would be negative")
-    if half > MOST_WEIGHT // 2 + 1 / 2:
-        raise error_at(line, f"a weight above {MOST_WEIGHT}, the limit: take a smaller scale than {scale:g}")
+    if rate == 1:
+        raise error_at(line, "a rate of 1 in all: an error that always happens has no weight")
+    half = scale * (math.log1p(-rate) - math.log(rate)) / 2
+    if abs(half) > MOST_WEIGHT // 2 + 1 / 2:
+        beyond = f"above {MOST_WEIGHT}" if half > 0 else f"below {-MOST_WEIGHT}"
+        raise error_at(line, f"a weight {beyond}, the limit: take a smaller scale than {scale:g}")
     return 2 * round(half)
 
 

@@ -1,8 +1,12 @@
-"""Reads the rows of a report one by one, also while it is written: a row ends where its cuts add up to its weight."""
+"""Reads the rows of a report one by one, also while it is written: a row ends where its base and cuts add up to its
+weight.
+
+A report of version 1 has no lines of a base, which is 0.
+"""
 
 from collections import namedtuple
 
-HEAD = b"fusion-report 1\n"
+HEADS = {b"fusion-report 1\n": 1, b"fusion-report 2\n": 2}
 
 # The words of a row's edges, and its weight; both None where the shot has no correction.
 Row = namedtuple("Row", "edges weight")
@@ -29,8 +33,9 @@ class Rows:
     def __init__(self, report):
         self.report = report
         self.shots = self.odd = 0
-        if self.next_line() != HEAD:
-            raise ReportError("not a report of version 1")
+        self.version = HEADS.get(self.next_line())
+        if self.version is None:
+            raise ReportError("not a report of version 1 or 2")
 
     def next_line(self):
         line = self.report.readline()
@@ -53,13 +58,14 @@ class Rows:
         raise self.wrong(line)
 
     def correction(self):
-        """What follows the first line of a row: its edges, its weight and its cuts."""
-        word, *edges = self.next_line().split()
+        """What follows the first line of a row: its edges, its base, its weight and its cuts."""
         line = self.next_line()
-        name, _, number = line.partition(b" ")
-        if word != b"edges" or name != b"weight":
+        word, *edges = line.split()
+        if word != b"edges":
             raise self.wrong(line)
-        weight = left = int(number)
+        base = self.number(b"base") if self.version == 2 else 0
+        weight = self.number(b"weight")
+        left = weight - base
         while left > 0:
             line = self.next_line()
             name, value, *_ = line.split(None, 2)
@@ -70,6 +76,14 @@ class Rows:
         if left < 0:
             raise self.wrong(line)
         return self.row(edges, weight)
+
+    def number(self, word):
+        """The number of the next line, which has this word before it."""
+        line = self.next_line()
+        name, _, number = line.partition(b" ")
+        if name != word:
+            raise self.wrong(line)
+        return int(number)
 
     def take_cut(self, line):
         """Takes a line of a cut."""

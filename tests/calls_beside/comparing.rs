@@ -94,7 +94,7 @@ impl Comparison<'_, '_> {
         let leads = (step.from, step.to) == (first, second)
             || (step.from, step.to) == (second, first);
         let has_real_end = !graph.is_virtual(first) || !graph.is_virtual(second);
-        leads && has_real_end && step.weight == graph.weight(step.edge)
+        leads && has_real_end && step.weight == graph.absolute_weight(step.edge)
     }
 
     /// The residue is what the potentials of the ends leave of the weight, and also what the load leaves, unless one outer
@@ -111,7 +111,7 @@ impl Comparison<'_, '_> {
         if cover.is_some() && cover == readings.cover_of(second) {
             return Ok(());
         }
-        let left = graph.weight(edge).saturating_sub(readings.load_of(edge));
+        let left = graph.absolute_weight(edge).saturating_sub(readings.load_of(edge));
         self.expect("residue", of, residue, left)
     }
 

@@ -46,14 +46,15 @@ impl Line {
 /// A cut as a report shows it.
 pub type Known<'a> = (u64, &'a [u32]);
 
-/// Whether the row has these edges, this weight and these cuts.
-pub fn is_row(row: &Row, edges: &[u32], weight: u64, cuts: &[Known<'_>]) -> bool {
+/// Whether the row has these edges, this weight and these cuts, where no edge is negative.
+pub fn is_row(row: &Row, edges: &[u32], weight: i128, cuts: &[Known<'_>]) -> bool {
     match row {
         Row::Best {
             edges: found,
+            base,
             weight: sum,
             cuts: list,
-        } => found.as_slice() == edges && *sum == weight && are_cuts(list.as_slice(), cuts),
+        } => found.as_slice() == edges && *base == 0 && *sum == weight && are_cuts(list.as_slice(), cuts),
         Row::Odd(_) => false,
     }
 }

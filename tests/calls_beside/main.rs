@@ -86,6 +86,8 @@ fn main(rt: HostRuntime) -> io::Result<()> {
         ("weights are those of the shot", weights::are_those_of_the_shot(alloc)),
         ("weights decide which row is good", weights::decide_what_is_good(alloc)),
         ("weights leave odd shots odd", weights::leave_odd_shots_odd(alloc)),
+        ("weights turn signs", weights::turn_signs(alloc)),
+        ("weights below 0 have a base", weights::judge_a_base(alloc)),
         ("layers are distances from the least vertex", layers::are_distances(alloc)),
         ("layers are cut as rounds are", layers::are_cut(alloc)),
         ("more units want more layers", layers::are_too_few(alloc)),

@@ -33,6 +33,11 @@ impl Found {
             Obstacle::Free(length) => Found::Free(length),
         }
     }
+
+    /// Whether a minus node is in the way, and not an edge.
+    fn is_minus(self) -> bool {
+        matches!(self, Found::LayerEmpty(_) | Found::BlossomEmpty(_) | Found::ZeroMinus(_))
+    }
 }
 
 /// What may be said of a tree.
@@ -45,11 +50,15 @@ pub struct Expected {
 }
 
 impl Expected {
-    /// Whether the answer is one of the obstacles that there are; if there is none, the greatest length.
+    /// Whether the answer is one of the obstacles that there are, an edge if there is one; if there is none, the greatest
+    /// length.
     pub fn allows(&self, answer: Found) -> bool {
         match answer {
             Found::Free(length) => {
                 self.standing.is_empty() && length > 0 && self.greatest == Some(length)
+            }
+            _ if answer.is_minus() => {
+                self.standing.contains(&answer) && self.standing.iter().all(|it| it.is_minus())
             }
             _ => self.standing.contains(&answer),
         }
@@ -78,7 +87,7 @@ impl Scan<'_, '_> {
         let graph = self.plain.graph;
         let mut standing = Vec::new(self.alloc);
         for edge in 0..graph.edge_count() {
-            if self.readings.load_of(edge) < graph.weight(edge) {
+            if self.readings.load_of(edge) < graph.absolute_weight(edge) {
                 continue;
             }
             let (first, second) = graph.ends(edge);
@@ -123,7 +132,7 @@ impl Scan<'_, '_> {
         for edge in 0..graph.edge_count() {
             let (gain, loss) = (gains[edge as usize], losses[edge as usize]);
             if gain > loss {
-                let left = graph.weight(edge) - self.readings.load_of(edge);
+                let left = graph.absolute_weight(edge) - self.readings.load_of(edge);
                 limits.push(left / (gain - loss))?;
             }
         }

@@ -51,7 +51,7 @@ impl Readings {
     pub fn residue_of(&self, graph: &Graph, edge: u32) -> u64 {
         let (first, second) = graph.ends(edge);
         let heights = self.height_of(first) + self.height_of(second);
-        graph.weight(edge).saturating_sub(heights)
+        graph.absolute_weight(edge).saturating_sub(heights)
     }
 
     /// The outer nodes that hold the edge's ends.
@@ -84,7 +84,7 @@ impl Readings {
     /// Whether the edge is tight and leads from a covered vertex to an uncovered real one.
     pub fn may_absorb(&self, graph: &Graph, edge: u32) -> bool {
         let (inner, outer) = self.inner_and_outer_end(graph, edge);
-        self.load_of(edge) == graph.weight(edge)
+        self.load_of(edge) == graph.absolute_weight(edge)
             && self.cover_of(inner).is_some()
             && self.may_open(graph, outer)
     }
@@ -101,7 +101,7 @@ impl Readings {
         let mut room = None;
         for edge in 0..graph.edge_count() {
             if is_between(&is_in, graph.ends(edge)) {
-                let left = graph.weight(edge) - self.load_of(edge);
+                let left = graph.absolute_weight(edge) - self.load_of(edge);
                 room = Some(room.map_or(left, |least: u64| least.min(left)));
             }
         }

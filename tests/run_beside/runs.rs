@@ -14,10 +14,10 @@ const PLAN: &[u8] = b"{\"units\":[[[0,2]],[[3,5]]],\"fusions\":[{\"of\":[0,1],\"
 pub const DECODE: &str = "fusion decode --graph g --shots s --format 01";
 const CHECK: &str = "fusion check --graph g --shots s --format 01 --report r";
 
-const ROW_100: &[u8] = b"shot 0\nedges 0\nweight 2\n";
+const ROW_100: &[u8] = b"shot 0\nedges 0\nbase 0\nweight 2\n";
 const TWO_SHOTS: &[u8] =
-    b"fusion-report 1\nshot 0\nedges 0\nweight 2\nshot 1\nedges 0 1\nweight 6\ndone 2 odd 0 units 2 fusions 0\n";
-const HEAD: &[u8] = b"fusion-report 1\n";
+    b"fusion-report 2\nshot 0\nedges 0\nbase 0\nweight 2\nshot 1\nedges 0 1\nbase 0\nweight 6\ndone 2 odd 0 units 2 fusions 0\n";
+const HEAD: &[u8] = b"fusion-report 2\n";
 const ROOM: usize = 4096;
 
 /// The words of a command line that are divided by single spaces.
@@ -116,20 +116,20 @@ pub fn decodes_by_a_plan<R: Threads + Sync>(rt: &R, alloc: Global) -> Result<(),
     let mut files = files_of(alloc, b"101\n")?;
     let line = "fusion decode --graph g --plan p --shots s --format 01 --workers 1 --trace";
     let answer = run_with(rt, alloc, line, &mut files)?;
-    let text = b"fusion-report 1\nshot 0\nedges 1 2\nweight 6\ntook 0 0 0\ngave 0 0 0\ntook 0 0 1\ngave 0 0 1\ntook 0 0 2\ngave 0 0 2\ndone 1 odd 0 units 2 fusions 1\n";
+    let text = b"fusion-report 2\nshot 0\nedges 1 2\nbase 0\nweight 6\ntook 0 0 0\ngave 0 0 0\ntook 0 0 1\ngave 0 0 1\ntook 0 0 2\ngave 0 0 2\ndone 1 odd 0 units 2 fusions 1\n";
     demand_report(rt, alloc, &answer, b"101\n", text)?;
     Stopped::unless(files.asked().len() == 3, "how many names were asked for")?;
 
     let mut files = files_of(alloc, b"111\n")?;
     let line = "fusion decode --graph g --plan p --shots s --format 01 --workers 2";
     let answer = run_with(rt, alloc, line, &mut files)?;
-    let text = b"fusion-report 1\nshot 0\nedges 0 2\nweight 4\ndone 1 odd 0 units 2 fusions 1\n";
+    let text = b"fusion-report 2\nshot 0\nedges 0 2\nbase 0\nweight 4\ndone 1 odd 0 units 2 fusions 1\n";
     demand_report(rt, alloc, &answer, b"111\n", text)
 }
 
 /// Two shots of words, and one that names a detector twice, read in pieces of 1, 2 and 7 bytes.
 pub fn ends_at_a_refused_shot<R: Threads + Sync>(rt: &R, alloc: Global) -> Result<(), Stopped> {
-    let text = b"fusion-report 1\nshot 0\nedges 1 2\nweight 6\nshot 1\nedges\nweight 0\n".as_slice();
+    let text = b"fusion-report 2\nshot 0\nedges 1 2\nbase 0\nweight 6\nshot 1\nedges\nbase 0\nweight 0\n".as_slice();
     for piece in [1, 2, 7, 64] {
         let mut files = files_of(alloc, b"shot D0 L0 D2\n\nshot\nshot D1 D1\n")?;
         files.give_at_most(piece);
@@ -148,7 +148,7 @@ pub fn moves_single_bytes<R: Threads + Sync>(rt: &R, alloc: Global) -> Result<()
     let mut out = MemSink::new(alloc, ROOM)?;
     out.take_at_most(1);
     let answer = run_into(rt, alloc, DECODE, &mut files, out)?;
-    let text = b"fusion-report 1\nshot 0\nedges\nweight 0\ndone 1 odd 0 units 1 fusions 0\n".as_slice();
+    let text = b"fusion-report 2\nshot 0\nedges\nbase 0\nweight 0\ndone 1 odd 0 units 1 fusions 0\n".as_slice();
     Stopped::unless(answer.is(0, text, b""), "the report")
 }
 
@@ -160,7 +160,7 @@ pub fn checks_rows<R: Threads + Sync>(rt: &R, alloc: Global) -> Result<(), Stopp
         ("cut 2 1\ncut 2 3\n", 1, "bad SumDiffers 6 4", "1"),
     ];
     for (cuts, status, verdict, bad) in rows {
-        let report = format!(in alloc; "fusion-report 1\nshot 0\nedges 1 2\nweight 6\n{cuts}done 1 odd 0 units 1 fusions 0\n")?;
+        let report = format!(in alloc; "fusion-report 2\nshot 0\nedges 1 2\nbase 0\nweight 6\n{cuts}done 1 odd 0 units 1 fusions 0\n")?;
         let mut files = files_of(alloc, b"101\n")?;
         files.add(alloc, "r", report.as_bytes())?;
         let answer = run_with(rt, alloc, CHECK, &mut files)?;

@@ -142,8 +142,8 @@ fn run_watched<R: Threads + Sync>(
     Ok(Answer { ended, reads })
 }
 
-/// A read gives one shot of `000`, whose row has 22 bytes. Before shot `k` is read, the head is out, and the rows of all
-/// windows that the shots before it fill. The graph takes as many reads as it has pieces of a shot's size.
+/// A read gives one shot of `000`, whose row has 29 bytes. Before shot `k` is read, the head is out, and the rows of
+/// all windows that the shots before it fill. The graph takes as many reads as it has pieces of a shot's size.
 pub fn writes_rows_before_it_reads_on<R: Threads + Sync>(rt: &R, alloc: Global) -> Result<(), Stopped> {
     let graph_reads = GRAPH.len().div_ceil(4) + 1;
     for window in [1_u64, 2, 3, 7] {
@@ -160,7 +160,7 @@ pub fn writes_rows_before_it_reads_on<R: Threads + Sync>(rt: &R, alloc: Global) 
                 0
             } else {
                 let shots = (k - graph_reads) as u64;
-                16 + 22 * (shots / window * window)
+                16 + 29 * (shots / window * window)
             };
             Stopped::unless_at(*taken == wanted, "what was taken before a read", k as u64)?;
         }
@@ -171,7 +171,7 @@ pub fn writes_rows_before_it_reads_on<R: Threads + Sync>(rt: &R, alloc: Global) 
 /// The head of a check is out before the first shot is read.
 pub fn writes_the_head_before_it_reads<R: Threads + Sync>(rt: &R, alloc: Global) -> Result<(), Stopped> {
     let mut files = files_of(alloc, b"000\n")?;
-    files.add(alloc, "r", b"fusion-report 1\nshot 0\nedges\nweight 0\ndone 1 odd 0 units 1 fusions 0\n")?;
+    files.add(alloc, "r", b"fusion-report 2\nshot 0\nedges\nbase 0\nweight 0\ndone 1 odd 0 units 1 fusions 0\n")?;
     let sink = MemSink::new(alloc, ROOM)?;
     let seen = Seen::new();
     let line = "fusion check --graph g --shots s --format 01 --report r";
@@ -182,7 +182,7 @@ pub fn writes_the_head_before_it_reads<R: Threads + Sync>(rt: &R, alloc: Global)
 
 /// After an open, a read or a put that failed, that port is asked for nothing more, and no read asks for more than its limit.
 pub fn asks_nothing_after_a_failure<R: Threads + Sync>(rt: &R, alloc: Global) -> Result<(), Stopped> {
-    let report = b"fusion-report 1\nshot 0\nedges\nweight 0\nshot 1\nedges\nweight 0\ndone 2 odd 0 units 2 fusions 0\n";
+    let report = b"fusion-report 2\nshot 0\nedges\nbase 0\nweight 0\nshot 1\nedges\nbase 0\nweight 0\ndone 2 odd 0 units 2 fusions 0\n";
     let lines = [
         "fusion decode --graph g --shots s --format 01",
         "fusion decode --graph g --plan p --shots s --format 01 --workers 2 --window 2 --trace",
