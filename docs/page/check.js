@@ -2,24 +2,32 @@
 // Reads the rows of a report, and judges each beside its graph and its shot, in the words of `fusion check`. It decodes nothing.
 // Weights and the values of cuts are whole numbers of any size.
 
-// The rows of a report: edges, weight and cuts, or the vertex of an odd row. Throws where the text is no whole report.
+const HEADS = ["fusion-report 1", "fusion-report 2"];
+const NUMBER = /^[0-9]+$/, SIGNED = /^(0|-?[1-9][0-9]*)$/;
+
+// The rows of a report: edges, base, weight and cuts, or the vertex of an odd row. Version 1 has no lines of a base,
+// which is 0. Throws where the text is no whole report.
 function readReport(text) {
-  const lines = text.split("\n");
-  if (lines.shift() !== "fusion-report 1" || lines.pop() !== "") throw new Error("not a whole report of version 1");
+  const lines = text.split("\n"), version = HEADS.indexOf(lines.shift()) + 1;
+  if (!version || lines.pop() !== "") throw new Error("not a whole report of version 1 or 2");
   const rows = [];
   let before = "row";
   for (const line of lines) {
     const [word, ...rest] = line.split(" ");
-    if (rest.some((each) => each !== "odd" && !/^[0-9]+$/.test(each)) && word !== "done") throw new Error(beginOf(line));
+    const number = version === 2 && ["base", "weight"].includes(word) ? SIGNED : NUMBER;
+    if (rest.some((each) => each !== "odd" && !number.test(each)) && word !== "done") throw new Error(beginOf(line));
     const row = rows[rows.length - 1];
     if (word === "shot" && before === "row" && Number(rest[0]) === rows.length) {
       const odd = rest[1] === "odd" ? Number(rest[2]) : null;
-      rows.push({ odd, edges: [], weight: 0n, cuts: [] });
+      rows.push({ odd, edges: [], base: 0n, weight: 0n, cuts: [] });
       before = odd === null ? "shot" : "row";
     } else if (word === "edges" && before === "shot") {
       row.edges = rest.map(Number);
-      before = "edges";
-    } else if (word === "weight" && before === "edges") {
+      before = version === 2 ? "edges" : "base";
+    } else if (word === "base" && before === "edges") {
+      row.base = BigInt(rest[0]);
+      before = "base";
+    } else if (word === "weight" && before === "base") {
       row.weight = BigInt(rest[0]);
       before = "row";
     } else if (word === "cut" && before === "row" && row && row.odd === null) {
@@ -42,8 +50,27 @@ function verdictOf(graph, defects, row) {
   if (row.odd !== null) {
     return row.odd === firstOdd(graph, new Set(defects)) ? "good" : `OddWrong ${row.odd}`;
   }
-  const fault = edgesFault(graph, new Set(defects), row) || cutsFault(graph, new Set(defects), row.cuts);
-  return fault || loadsFault(graph, row) || "good";
+  const fault = edgesFault(graph, new Set(defects), row) || baseFault(graph, row.base);
+  return fault || cutsFault(graph, shiftedDefects(graph, defects), row.cuts) || loadsFault(graph, row) || "good";
+}
+
+// The edges that weigh less than 0.
+function negativeEdges(graph) {
+  return graph.weighted_edges.filter(([, , weight]) => weight < 0);
+}
+
+// Whether the base isn't the sum of the negative weights.
+function baseFault(graph, base) {
+  const sum = negativeEdges(graph).reduce((total, [, , weight]) => total + BigInt(weight), 0n);
+  return base === sum ? null : `BaseDiffers ${base} ${sum}`;
+}
+
+// The vertices at which the negative edges and the defect are together odd in number: where they ask for a correction
+// that weighs without sign, and in which the negative edges are then exchanged.
+function shiftedDefects(graph, defects) {
+  const shifted = new Set(defects);
+  for (const [u, v] of negativeEdges(graph)) for (const end of [u, v]) if (!shifted.delete(end)) shifted.add(end);
+  return shifted;
 }
 
 // What is wrong with a row's edges as a correction, or with their weight.
@@ -63,8 +90,8 @@ function edgesFault(graph, defects, row) {
   return sum === row.weight ? null : `WeightNotSum ${row.weight} ${sum}`;
 }
 
-// What is wrong with the first cut that isn't one.
-function cutsFault(graph, defects, cuts) {
+// What is wrong with the first cut that isn't one: by the shifted defects each is odd.
+function cutsFault(graph, shifted, cuts) {
   const virtuals = new Set(graph.virtual_vertices);
   for (let j = 0; j < cuts.length; j++) {
     const { vertices } = cuts[j];
@@ -75,7 +102,7 @@ function cutsFault(graph, defects, cuts) {
     if (!rises || (j > 0 && !isBelow(cuts[j - 1].vertices, vertices))) return `CutsNotRising ${j}`;
     const held = vertices.find((vertex) => virtuals.has(vertex));
     if (held !== undefined) return `CutHoldsVirtual ${held}`;
-    if (vertices.filter((vertex) => defects.has(vertex)).length % 2 === 0) return `CutEven ${j}`;
+    if (vertices.filter((vertex) => shifted.has(vertex)).length % 2 === 0) return `CutEven ${j}`;
   }
   return null;
 }
@@ -98,12 +125,13 @@ function loadsOf(graph, cuts) {
   return loads;
 }
 
-// Whether the cuts load an edge with more than it weighs, or don't add up to the row's weight. If neither, nothing is lighter.
+// Whether the cuts load an edge with more than it weighs without its sign, or don't add up with the base to the row's
+// weight. If neither, nothing is lighter.
 function loadsFault(graph, row) {
   const loads = loadsOf(graph, row.cuts);
-  const edge = loads.findIndex((load, k) => load > BigInt(graph.weighted_edges[k][2]));
+  const edge = loads.findIndex((load, k) => load > BigInt(Math.abs(graph.weighted_edges[k][2])));
   if (edge >= 0) return `Overloaded ${edge}`;
-  const sum = row.cuts.reduce((total, cut) => total + cut.value, 0n);
+  const sum = row.cuts.reduce((total, cut) => total + cut.value, row.base);
   return sum === row.weight ? null : `SumDiffers ${row.weight} ${sum}`;
 }
 

@@ -23,9 +23,10 @@ function coveredPieces(graph, cuts) {
     graph.weighted_edges.forEach(([u, v, weight], edge) => {
       if (inside.has(u) === inside.has(v)) return;
       const [end, other] = inside.has(u) ? [u, v] : [v, u];
-      const first = used.get(`${edge} ${end}`) || 0;
+      const first = used.get(`${edge} ${end}`) || 0, length = Math.abs(weight);
       used.set(`${edge} ${end}`, first + Number(value));
-      pieces.push({ end, other, first: first / weight, last: (first + Number(value)) / weight, isBlossom: vertices.length > 1 });
+      const last = (first + Number(value)) / length;
+      pieces.push({ end, other, first: first / length, last, isBlossom: vertices.length > 1 });
     });
   }
   return pieces;

@@ -8,11 +8,14 @@ and the report is that of `fusion decode`.
 """
 
 import json
+import signal
 import sys
 from pathlib import Path
 
 
 def main():
+    # A reader that leaves early ends the script, as it ends any filter.
+    signal.signal(signal.SIGPIPE, signal.SIG_DFL)
     graph, positions, shots, report = map(Path, sys.argv[1:])
     members = json.loads(graph.read_text())
     real = [vertex for vertex in range(members["vertex_num"]) if vertex not in set(members["virtual_vertices"])]

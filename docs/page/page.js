@@ -11,7 +11,7 @@ function rowOf(text) {
   const [, ...lines] = text.trim().split("\n");
   const first = text.split("\n")[0].replace(/^shot \d+/, "shot 0").trim();
   const odd = first.includes(" odd ") ? 1 : 0;
-  return readReport(["fusion-report 1", first, ...lines, `done 1 odd ${odd} units 1 fusions 0`, ""].join("\n"))[0];
+  return readReport(["fusion-report 2", first, ...lines, `done 1 odd ${odd} units 1 fusions 0`, ""].join("\n"))[0];
 }
 
 // What the check says of a row's text, and its picture.
