@@ -12,6 +12,6 @@ mod writing;
 
 pub use coded::write_coded;
 pub use faults::ObsFault;
-pub use observables::Observables;
+pub use observables::{MOST_OBSERVABLES, Observables};
 pub use reader::read_observables;
 pub use writing::write_bits;

@@ -8,6 +8,10 @@ ghost use Rattle.fb_request.specs.Ranges.{Range};
 ghost use Rattle.fb_request.specs.Ranges as ranges;
 
 use crate::help;
+use crate::limits::{
+    LEAST_DISTANCE, MOST_AT_ONCE, MOST_DISTANCE, MOST_DRAWN, MOST_RATE, MOST_ROUNDS, MOST_UNITS,
+    MOST_WORKERS,
+};
 use clap::builder::ValueParser;
 use clap::{Arg, ArgAction, Command};
 use std::alloc::{AllocError, Global};
@@ -15,30 +19,6 @@ use std::ops::RangeInclusive;
 
 /// The version that `--version` prints.
 const VERSION: &str = "0.1.0";
-
-/// The most workers that may solve parts side by side.
-const MOST_WORKERS: u64 = fb_request::MOST_WORKERS as u64;
-
-/// The most shots that may be solved at once.
-const MOST_AT_ONCE: u64 = fb_request::MOST_AT_ONCE as u64;
-
-/// The least distance of a lattice.
-const LEAST_DISTANCE: u64 = 2;
-
-/// The greatest distance of a lattice.
-const MOST_DISTANCE: u64 = 255;
-
-/// The most rounds of a lattice.
-const MOST_ROUNDS: u64 = 1 << 20;
-
-/// The most units of a plan.
-const MOST_UNITS: u64 = fb_plan::plan::MOST_UNITS as u64;
-
-/// The rate at which an edge is hit by every draw.
-const MOST_RATE: u64 = 1 << 20;
-
-/// The most shots that may be drawn.
-const MOST_DRAWN: u64 = 1_000_000;
 
 /// The whole command line: one command and its options.
 pub fn fusion<'a>(alloc: Global) -> Result<Command<'a>, AllocError>
@@ -323,7 +303,7 @@ fn workers<'a>(alloc: Global) -> Arg<'a>
         "workers",
         "N",
         1..=MOST_WORKERS,
-        "How many workers solve parts side by side, 1 to 64; 1 where absent",
+        "How many workers solve parts side by side, 1 to 64 (default: 1)",
     )
 }
 
@@ -336,7 +316,7 @@ fn window<'a>(alloc: Global) -> Arg<'a>
         "window",
         "N",
         1..=MOST_AT_ONCE,
-        "How many shots are taken and solved at a time, 1 to 64; 1 where absent",
+        "How many shots are taken and solved at a time, 1 to 64 (default: 1)",
     )
 }
 
@@ -420,7 +400,7 @@ fn rate<'a>(alloc: Global) -> Arg<'a>
     .required(true)
 }
 
-/// The option for the state at which the draws start.
+/// The option for the seed of the draws.
 fn start<'a>(alloc: Global) -> Arg<'a>
     ensures { IsOption (required_number_rule (codes "start") ranges.starts) result }
 {
@@ -429,7 +409,7 @@ fn start<'a>(alloc: Global) -> Arg<'a>
         "start",
         "X",
         0..=u64::MAX,
-        "The state at which the draws start, 0 to 18446744073709551615",
+        "The seed of the draws, 0 to 18446744073709551615",
     )
     .required(true)
 }

@@ -21,7 +21,7 @@ pub(crate) const DECODE: &str = "\
 NAME is a file, or `-` for standard input. At most one NAME may be `-`.
 
 The report goes to standard output: a row for each shot, in order, then a line that begins with `done`. A report without
-that line is unfinished. Weights are even whole numbers from 0 to 1073741824, without a unit.
+that line is unfinished. Weights are even whole numbers from -1073741824 to 1073741824, without a unit.
 
 Example:
   fusion decode --graph examples/line/graph.json --shots examples/line/shots.01 --format 01

@@ -4,6 +4,7 @@
 
 mod command;
 mod help;
+mod limits;
 mod words;
 
 pub use words::{WordsFault, read_words};
