@@ -2,7 +2,7 @@
 use Rattle.std.proofs.Common.{ℕ, ◌≡◌, ◌+◌, ◌<◌, ◌==◌, length, ◌&&◌, ◌||◌, ◌⊎◌, inl, inr, not, Bool, true, false, List, [], ◌∷◌, ◌++◌, All, Some, get_or, refl, sym, ap, ◌∙◌, subst, append_assoc, arith}
 use Rattle.std.proofs.lemmas.Bool.{both_ways, and_from, cases_Bool, eqb-true, false≢true, false_from_ne_true, ne_eqb, not_from_false, or_cases, or_from, or_parts}
 use Rattle.std.proofs.lemmas.List.Elements.{All-cons, All-from_get_or, All-tail}
-use Rattle.std.proofs.lemmas.List.Sorted.{IsPermutation-append_comm, IsPermutation-append_left, IsPermutation-append_right, IsPermutation-trans}
+use Rattle.std.proofs.lemmas.List.Sorted.{IsPermutation-append_comm, IsPermutation-append_left, IsPermutation-append_right, IsPermutation-middle, IsPermutation-trans}
 use Rattle.std.specs.List.Sorted.{IsPermutation}
 use Rattle.fb_graph.specs.Counts.{as_count}
 use Rattle.fb_graph.specs.Ends.{ends_in}
@@ -12,27 +12,27 @@ use Rattle.fb_graph.specs.Laws.{Link}
 use Rattle.fb_graph.specs.Dual.{Node, cover_of, is_outer, no_node, node_at, top_at}
 use Rattle.fb_graph.proofs.EndSums.{ends_append}
 use Rattle.fb_graph.proofs.Floods.{is_in-left, is_in-right}
-use Rattle.fb_graph.proofs.Members.{distinct_left}
 use Rattle.fb_graph.proofs.Sets.{equal_sym, is_in-filter, is_in-head, is_in-tail}
 use Rattle.fb_laws.specs.Paths.{AreWholeOnPath, IsPath, matched_links, tip_of, tree_links}
 use Rattle.fb_laws.specs.Works.{AreMatchedLinks, IsBranchOf, IsMatching, IsSetOf, names_without}
 use Rattle.fb_laws.specs.Trees.{Connects, IsTree, branches_beside, branches_of, grown_links, paired_links, path_to, plus_names, tree_names}
 use Rattle.fb_laws.specs.Searches.{IsOuterNode, IsSearch, LeavesNode}
-use Rattle.fb_laws.specs.Forests.{ForestDone, ForestEnded, ForestFirst, ForestMet, IsForest, MatchingRerooted, TreeOf, forest_grown, forest_names, forest_paired, forest_roots, met_links}
-use Rattle.fb_laws.proofs.ForestStates.{all_mid, each_first, forest_tree, links_both, links_kept, names_first, paired_first}
+use Rattle.fb_laws.specs.Forests.{ForestDone, ForestEnded, ForestFirst, ForestMet, ForestReleased, IsForest, MatchingRerooted, TreeOf, forest_grown, forest_names, forest_paired, forest_roots, met_links}
+use Rattle.fb_laws.proofs.ForestStates.{all_mid, each_first, forest_tree, links_kept, names_first}
 use Rattle.fb_laws.proofs.HalvesKept.{matching_permuted}
-use Rattle.fb_laws.proofs.MatchedNodes.{matching_augmented, matching_met, set_held, set_whole}
+use Rattle.fb_laws.proofs.MatchedNodes.{matching_augmented, matching_met, matching_released, set_held, set_whole}
 use Rattle.fb_laws.proofs.MergedParts.{distinct_across}
 use Rattle.fb_laws.proofs.OpenedBlossoms.{distinct_permuted, same_permuted}
+use Rattle.fb_laws.proofs.PermutedTrees.{pull}
 use Rattle.fb_laws.proofs.PathSums.{path_ends}
 use Rattle.fb_laws.proofs.SearchEnds as ends
 use Rattle.fb_laws.proofs.SearchStates.{links_joined, named_set, root_set, search_path, unmatched_outside}
-use Rattle.fb_laws.proofs.SearchTrees.{branches_matched, branches_tree, cover_set, plus_in_tree}
+use Rattle.fb_laws.proofs.SearchTrees.{branches_matched, branches_tree, cover_set, leads_from, plus_in_tree}
 use Rattle.fb_laws.proofs.TreePaths.{distinct_right}
 use Rattle.fb_laws.proofs.JoinedThree.{root_plus}
 
 -- matched links and unmatched names, of which only membership counts
-matching_named : (p : Problem) (nodes : List Node) (links : List Link) (unmatched other : List ℕ)
+pub matching_named : (p : Problem) (nodes : List Node) (links : List Link) (unmatched other : List ℕ)
     → ((n : ℕ) → is_in other n ≡ is_in unmatched n) → IsMatching p nodes links unmatched → IsMatching p nodes links other
 matching_named p nodes links unmatched other same matching = record {
   dual = matching.dual;
@@ -139,13 +139,6 @@ forest_first p nodes before after t rest unmatched r state = record {
     root_first (s ∷ ts) n =
         ap (λ b. (s.root == n) || b) (root_first ts n) ∙ swap_two (s.root == n) (t.root == n) (is_in (forest_roots (ts ++ after)) n)
 
--- a list pulled before another one
-pull : {X : Type 0} (xs ys zs : List X) → IsPermutation (xs ++ (ys ++ zs)) (ys ++ (xs ++ zs))
-pull xs ys zs =
-    subst (λ l. IsPermutation l (ys ++ (xs ++ zs))) (append_assoc xs ys zs)
-    (subst (IsPermutation ((xs ++ ys) ++ zs)) (append_assoc ys xs zs)
-    (IsPermutation-append_left zs (xs ++ ys) (ys ++ xs) (IsPermutation-append_comm xs ys)))
-
 -- unmatched names without one of the roots
 without_root : (unmatched roots : List ℕ) (root : ℕ) → ((n : ℕ) → is_in unmatched n ≡ is_in (root ∷ roots) n)
     → is_in roots root ≡ false → (n : ℕ) → is_in (names_without root unmatched) n ≡ is_in roots n
@@ -163,7 +156,7 @@ without_root unmatched roots root are new n =
         kept true = refl
         kept false = refl
 
-root_in_names : (trees : List (TreeOf Link)) (n : ℕ) → is_in (forest_roots trees) n ≡ true → is_in (forest_names trees) n ≡ true
+pub root_in_names : (trees : List (TreeOf Link)) (n : ℕ) → is_in (forest_roots trees) n ≡ true → is_in (forest_names trees) n ≡ true
 root_in_names [] n has = has
 root_in_names (t ∷ ts) n has = by (or_cases (t.root == n) (is_in (forest_roots ts) n) has) (root_in_names ts n)
   where
@@ -242,6 +235,52 @@ forest_ended p nodes t others rest unmatched r name out v state among are leavin
         × All (IsBranchOf nodes) (branches_of nodes (path_to t.branches name))
         × IsPermutation (path_to t.branches name ++ branches_beside t.branches name) t.branches
     path = search_path p nodes t.branches (forest_paired others ++ rest) unmatched t.root r name found among
+
+pub forest_released : ForestReleased
+forest_released p nodes t others old rest unmatched r name other out b state among are connects leaving_old boundary =
+    let (v, leaving, cover) = ends.out_of nodes out name other connects in
+    let (set, within) = cover_set nodes v other state.matching.dual.names cover in
+    forest_left p nodes t others (old ∷ rest) ((grown_links (path_to t.branches name) ++ out ∷ beside) ++ rest) unmatched
+    (names_without t.root unmatched) r state
+    (matching_permuted p nodes (grown_links (path_to t.branches name) ++ out ∷ (beside ++ (forest_paired others ++ rest)))
+    (forest_paired others ++ ((grown_links (path_to t.branches name) ++ out ∷ beside) ++ rest)) (names_without t.root unmatched)
+    (subst (λ l. IsPermutation l (forest_paired others ++ ((grown_links (path_to t.branches name) ++ out ∷ beside) ++ rest)))
+    (append_assoc (grown_links (path_to t.branches name)) (out ∷ beside) (forest_paired others ++ rest))
+    (pull (grown_links (path_to t.branches name) ++ out ∷ beside) (forest_paired others) rest))
+    (subst (λ l. IsMatching p nodes (l ++ out ∷ (beside ++ (forest_paired others ++ rest))) (names_without t.root unmatched))
+    (branches_tree nodes (path_to t.branches name))
+    (matching_released p nodes t.root other (top_at nodes t.root) (top_at nodes other) (branches_of nodes (path_to t.branches name))
+    out old v b (beside ++ (forest_paired others ++ rest)) unmatched
+    (matching_permuted p nodes (along ++ (beside ++ (forest_paired others ++ old ∷ rest)))
+    (along ++ old ∷ (beside ++ (forest_paired others ++ rest))) unmatched
+    (IsPermutation-append_right along (beside ++ (forest_paired others ++ old ∷ rest))
+    (old ∷ (beside ++ (forest_paired others ++ rest)))
+    (subst (λ l. IsPermutation l (old ∷ (beside ++ (forest_paired others ++ rest))))
+    (append_assoc beside (forest_paired others) (old ∷ rest))
+    (subst (λ l. IsPermutation ((beside ++ forest_paired others) ++ old ∷ rest) (old ∷ l))
+    (append_assoc beside (forest_paired others) rest)
+    (IsPermutation-middle (beside ++ forest_paired others) old rest))))
+    (ends.matching p nodes t.branches (forest_paired others ++ old ∷ rest) unmatched t.root r name found among))
+    (root_set p nodes t.branches (forest_paired others ++ old ∷ rest) unmatched t.root r found) found.open_root set path.2 path.0
+    (ends.links p nodes t.branches (forest_paired others ++ old ∷ rest) unmatched t.root r name found among out are)
+    (ends.leads p nodes t.branches (forest_paired others ++ old ∷ rest) unmatched t.root r name found among out v leaving) within
+    (leads_from nodes old other b state.matching.dual.names leaving_old) boundary)))
+    (without_root unmatched (forest_roots others) t.root state.roots (root_only p nodes t others (old ∷ rest) unmatched r state))
+  where
+    beside : List Link
+    beside = paired_links (branches_beside t.branches name)
+
+    along : List Link
+    along = matched_links (branches_of nodes (path_to t.branches name))
+
+    found : IsSearch p nodes t.branches (forest_paired others ++ old ∷ rest) unmatched t.root r
+    found = forest_tree p nodes [] others t (old ∷ rest) unmatched r state
+
+    path : IsPath (top_at nodes t.root) (branches_of nodes (path_to t.branches name))
+        × (tip_of (top_at nodes t.root) (branches_of nodes (path_to t.branches name)) ≡ top_at nodes name)
+        × All (IsBranchOf nodes) (branches_of nodes (path_to t.branches name))
+        × IsPermutation (path_to t.branches name ++ branches_beside t.branches name) t.branches
+    path = search_path p nodes t.branches (forest_paired others ++ old ∷ rest) unmatched t.root r name found among
 
 pub forest_done : ForestDone
 forest_done p nodes rest unmatched r state = (

@@ -1,26 +1,25 @@
 -- Several trees that grow at once: each is the tree of a search, and steps and attached nodes keep them.
-use Rattle.std.proofs.Common.{ℕ, ◌≡◌, ◌+◌, ◌%◌, ◌||◌, ◌⊎◌, inl, inr, Bool, true, false, List, [], ◌∷◌, ◌++◌, map, All, Some, get_or, refl, sym, ap, ◌∙◌, subst, append_assoc}
-use Rattle.std.proofs.lemmas.Bool.{both_ways, cases_Bool, false≢true, false_from_ne_true}
-use Rattle.std.proofs.lemmas.List.Elements.{All-nil, All-cons, All-head, All-tail, All-append}
-use Rattle.std.proofs.lemmas.List.Sorted.{All-permutation, IsPermutation-sym, IsPermutation-middle, IsPermutation-append_comm, IsPermutation-append_left, IsPermutation-append_right, IsPermutation-trans}
+use Rattle.std.proofs.Common.{ℕ, ◌≡◌, ◌%◌, ◌||◌, ◌⊎◌, inl, inr, Bool, true, false, List, [], ◌∷◌, ◌++◌, All, Some, get_or, refl, sym, ap, ◌∙◌, subst, append_assoc}
+use Rattle.std.proofs.lemmas.Bool.{both_ways, false≢true, false_from_ne_true}
+use Rattle.std.proofs.lemmas.List.Elements.{All-cons, All-head, All-tail, All-append}
+use Rattle.std.proofs.lemmas.List.Sorted.{All-permutation, IsPermutation-sym, IsPermutation-middle, IsPermutation-append_comm, IsPermutation-append_left}
 use Rattle.std.specs.List.Sorted.{IsPermutation}
 use Rattle.fb_graph.specs.Parity.{is_in}
 use Rattle.fb_graph.specs.Problem.{Problem}
 use Rattle.fb_graph.specs.Certificate.{AreDistinct}
+use Rattle.fb_graph.specs.Covers.{HaveParity}
 use Rattle.fb_graph.specs.Laws.{Link}
-use Rattle.fb_graph.specs.Dual.{Node, IsDual, all_cuts, leaves, cover_of, height_of, is_outer, top_at}
-use Rattle.fb_graph.specs.Steps.{Roles, gains, losses, stepped_nodes}
-use Rattle.fb_graph.specs.Covers.{AreRoles, HaveParity, is_covered_by}
-use Rattle.fb_graph.specs.Links.{pair, AreEven, IsTightLink}
-use Rattle.fb_graph.proofs.Floods.{is_in-left, is_in-right}
+use Rattle.fb_graph.specs.Dual.{Node, all_cuts, leaves, cover_of, height_of}
+use Rattle.fb_graph.specs.Links.{IsTightLink}
+use Rattle.fb_graph.proofs.Floods.{is_in-both, is_in-left, is_in-right}
 use Rattle.fb_graph.proofs.Members.{distinct_left, is_in-append}
 use Rattle.fb_graph.proofs.Nodes.{All-left, All-right}
 use Rattle.fb_graph.proofs.Sets.{is_in-cases, is_in-head}
 use Rattle.fb_graph.proofs.Unions.{distinct_append}
 use Rattle.fb_laws.specs.Fusion.{IsLinkOf}
 use Rattle.fb_laws.specs.Opening.{EndsAtDefects}
-use Rattle.fb_laws.specs.Works.{AreMatchedLinks, IsMatching, IsSetOf}
-use Rattle.fb_laws.specs.Trees.{Entry, EntryOf, Connects, IsTree, grown_links, minus_names, paired_links, plus_names, tree_names}
+use Rattle.fb_laws.specs.Works.{AreMatchedLinks}
+use Rattle.fb_laws.specs.Trees.{Entry, Connects, IsTree, grown_links, paired_links, tree_names}
 use Rattle.fb_laws.specs.Searches.{IsOuterNode, IsSearch}
 use Rattle.fb_laws.specs.Forests.{ForestAttached, ForestTree, IsForest, TreeOf, forest_grown, forest_names, forest_paired, forest_roots, from_each}
 use Rattle.fb_laws.proofs.HalvesKept.{matching_permuted}
@@ -197,72 +196,101 @@ rest_beside p nodes trees rest unmatched r state i d less = (
               both_ways (is_in (tree_names held.tree.root held.tree.branches) name) ((away i d less).1 name cover) held.has,
         )
 
+-- trees of a forest, whatever is matched beside them
+pub record AreTrees (p : Problem) (nodes : List Node) (trees : List (TreeOf Link)) (r : ℕ) : Type 0 where
+  pub outer : All (λ t. IsOuterNode nodes t.root) trees
+  pub names : AreDistinct (forest_names trees)
+  pub joined : All (λ t. IsTree nodes t.root t.branches) trees
+  pub grown : AreMatchedLinks p nodes (forest_grown trees)
+  pub parity : HaveParity (is_in (forest_names trees)) nodes r
+
+-- those beside one tree
+pub trees_beside : (p : Problem) (nodes : List Node) (before after : List (TreeOf Link)) (t : TreeOf Link) (rest : List Link)
+    (unmatched : List ℕ) (r : ℕ) → IsForest p nodes (before ++ t ∷ after) rest unmatched r → AreTrees p nodes (before ++ after) r
+trees_beside p nodes before after t rest unmatched r state = record {
+  outer = (all_mid (λ s. IsOuterNode nodes s.root) before after t state.outer).1;
+  names =
+      distinct_right (tree_names t.root t.branches) (forest_names (before ++ after))
+      (distinct_permuted (forest_names (before ++ t ∷ after)) (tree_names t.root t.branches ++ forest_names (before ++ after))
+      (names_first before after t) state.names);
+  joined = (all_mid (λ s. IsTree nodes s.root s.branches) before after t state.joined).1;
+  grown =
+      (links_kept p nodes (forest_grown (before ++ t ∷ after)) (grown_links t.branches) (forest_grown (before ++ after))
+      (each_first (λ s. grown_links s.branches) before after t) state.grown).1;
+  parity = λ d name leaf cover among.
+      state.parity d name leaf cover
+      (sym
+      (same_permuted (forest_names (before ++ t ∷ after)) (tree_names t.root t.branches ++ forest_names (before ++ after))
+      (names_first before after t) name)
+      ∙ is_in-right (tree_names t.root t.branches) (forest_names (before ++ after)) name among);
+}
+
+-- what is in a tree is in none of those beside it
+pub tree_apart : (p : Problem) (nodes : List Node) (before after : List (TreeOf Link)) (t : TreeOf Link) (rest : List Link)
+    (unmatched : List ℕ) (r : ℕ) → IsForest p nodes (before ++ t ∷ after) rest unmatched r
+    → (n : ℕ) → is_in (tree_names t.root t.branches) n ≡ true → is_in (forest_names (before ++ after)) n ≡ false
+tree_apart p nodes before after t rest unmatched r state n within =
+    distinct_across (tree_names t.root t.branches) (forest_names (before ++ after)) n
+    (distinct_permuted (forest_names (before ++ t ∷ after)) (tree_names t.root t.branches ++ forest_names (before ++ after))
+    (names_first before after t) state.names)
+    within
+
+-- the tree of a search put among trees
+pub forest_put : (p : Problem) (nodes : List Node) (before after : List (TreeOf Link)) (t : TreeOf Link) (rest : List Link)
+    (unmatched : List ℕ) (r : ℕ) → AreTrees p nodes (before ++ after) r
+    → IsSearch p nodes t.branches (forest_paired (before ++ after) ++ rest) unmatched t.root r
+    → ((n : ℕ) → is_in (tree_names t.root t.branches) n ≡ true → is_in (forest_names (before ++ after)) n ≡ false)
+    → ((n : ℕ) → is_in unmatched n ≡ is_in (forest_roots (before ++ t ∷ after)) n)
+    → IsForest p nodes (before ++ t ∷ after) rest unmatched r
+forest_put p nodes before after t rest unmatched r beside found apart roots = record {
+  matching =
+      matching_permuted p nodes (paired_links t.branches ++ (forest_paired (before ++ after) ++ rest))
+      (forest_paired (before ++ t ∷ after) ++ rest) unmatched
+      (IsPermutation-sym (forest_paired (before ++ t ∷ after) ++ rest)
+      (paired_links t.branches ++ (forest_paired (before ++ after) ++ rest)) (paired_first before after t rest))
+      found.matching;
+  outer = all_back (λ s. IsOuterNode nodes s.root) before after t found.root_is beside.outer;
+  roots = roots;
+  names =
+      distinct_permuted (tree_names t.root t.branches ++ forest_names (before ++ after)) (forest_names (before ++ t ∷ after))
+      (IsPermutation-sym (forest_names (before ++ t ∷ after)) (tree_names t.root t.branches ++ forest_names (before ++ after))
+      (names_first before after t))
+      (distinct_append (tree_names t.root t.branches) (forest_names (before ++ after)) found.names beside.names apart);
+  joined = all_back (λ s. IsTree nodes s.root s.branches) before after t found.joined beside.joined;
+  grown =
+      links_both p nodes (forest_grown (before ++ t ∷ after)) (grown_links t.branches) (forest_grown (before ++ after))
+      (IsPermutation-sym (forest_grown (before ++ t ∷ after)) (grown_links t.branches ++ forest_grown (before ++ after))
+      (each_first (λ s. grown_links s.branches) before after t))
+      found.grown beside.grown;
+  parity = λ d name leaf cover among.
+      by d name leaf cover
+      (is_in-both (tree_names t.root t.branches) (forest_names (before ++ after)) name
+      (same_permuted (forest_names (before ++ t ∷ after)) (tree_names t.root t.branches ++ forest_names (before ++ after))
+      (names_first before after t) name
+      ∙ among));
+}
+  where
+    by : (d name : ℕ) → is_in (leaves nodes) d ≡ true → cover_of nodes d ≡ Some name
+        → (is_in (tree_names t.root t.branches) name ≡ true) ⊎ (is_in (forest_names (before ++ after)) name ≡ true)
+        → height_of (all_cuts nodes) d % 2 ≡ r
+    by d name leaf cover (inl here) = found.parity d name leaf cover here
+    by d name leaf cover (inr there) = beside.parity d name leaf cover there
+
 -- the forest with other branches of one tree, as a search has them
-pub forest_with : (p : Problem) (nodes : List Node) (before after : List (TreeOf Link)) (t : TreeOf Link) (branches : List Entry)
+forest_with : (p : Problem) (nodes : List Node) (before after : List (TreeOf Link)) (t : TreeOf Link) (branches : List Entry)
     (first rest : List Link) (unmatched : List ℕ) (r : ℕ) → IsForest p nodes (before ++ t ∷ after) first unmatched r
     → IsSearch p nodes branches (forest_paired (before ++ after) ++ rest) unmatched t.root r
     → ((n : ℕ) → is_in (tree_names t.root branches) n ≡ true → is_in (forest_names (before ++ after)) n ≡ false)
     → IsForest p nodes (before ++ record { root = t.root; branches = branches } ∷ after) rest unmatched r
-forest_with p nodes before after t branches first rest unmatched r state found apart = record {
-  matching =
-      matching_permuted p nodes (paired_links branches ++ (forest_paired (before ++ after) ++ rest))
-      (forest_paired (before ++ new ∷ after) ++ rest) unmatched
-      (IsPermutation-sym (forest_paired (before ++ new ∷ after) ++ rest)
-      (paired_links branches ++ (forest_paired (before ++ after) ++ rest)) (paired_first before after new rest))
-      found.matching;
-  outer = all_back (λ s. IsOuterNode nodes s.root) before after new found.root_is
-      (all_mid (λ s. IsOuterNode nodes s.root) before after t state.outer).1;
-  roots = λ n. state.roots n ∙ ap (λ l. is_in l n) (same_roots before);
-  names =
-      distinct_permuted (tree_names t.root branches ++ forest_names (before ++ after)) (forest_names (before ++ new ∷ after))
-      (IsPermutation-sym (forest_names (before ++ new ∷ after)) (tree_names t.root branches ++ forest_names (before ++ after))
-      (names_first before after new))
-      (distinct_append (tree_names t.root branches) (forest_names (before ++ after)) found.names
-      (distinct_right (tree_names t.root t.branches) (forest_names (before ++ after))
-      (distinct_permuted (forest_names (before ++ t ∷ after)) (tree_names t.root t.branches ++ forest_names (before ++ after))
-      (names_first before after t) state.names))
-      apart);
-  joined = all_back (λ s. IsTree nodes s.root s.branches) before after new found.joined
-      (all_mid (λ s. IsTree nodes s.root s.branches) before after t state.joined).1;
-  grown =
-      links_both p nodes (forest_grown (before ++ new ∷ after)) (grown_links branches) (forest_grown (before ++ after))
-      (IsPermutation-sym (forest_grown (before ++ new ∷ after)) (grown_links branches ++ forest_grown (before ++ after))
-      (each_first (λ s. grown_links s.branches) before after new))
-      found.grown
-      (links_kept p nodes (forest_grown (before ++ t ∷ after)) (grown_links t.branches) (forest_grown (before ++ after))
-      (each_first (λ s. grown_links s.branches) before after t) state.grown).1;
-  parity = λ d name leaf cover among.
-      by d name leaf cover
-      (in_one name (is_in (tree_names t.root branches) name) refl
-      (sym (is_in-append (tree_names t.root branches) (forest_names (before ++ after)) name)
-      ∙ (same_permuted (forest_names (before ++ new ∷ after)) (tree_names t.root branches ++ forest_names (before ++ after))
-      (names_first before after new) name
-      ∙ among)));
-}
+forest_with p nodes before after t branches first rest unmatched r state found apart =
+    forest_put p nodes before after (record { root = t.root; branches = branches }) rest unmatched r
+    (trees_beside p nodes before after t first unmatched r state) found apart
+    (λ n. state.roots n ∙ ap (λ l. is_in l n) (same_roots before))
   where
-    new : TreeOf Link
-    new = record { root = t.root; branches = branches }
-
-    same_roots : (trees : List (TreeOf Link)) → forest_roots (trees ++ t ∷ after) ≡ forest_roots (trees ++ record { root = t.root; branches = branches } ∷ after)
+    same_roots : (trees : List (TreeOf Link))
+        → forest_roots (trees ++ t ∷ after) ≡ forest_roots (trees ++ record { root = t.root; branches = branches } ∷ after)
     same_roots [] = refl
     same_roots (s ∷ trees) = ap (λ l. s.root ∷ l) (same_roots trees)
-
-    in_one : (name : ℕ) (b : Bool) → is_in (tree_names t.root branches) name ≡ b
-        → (is_in (tree_names t.root branches) name || is_in (forest_names (before ++ after)) name) ≡ true
-        → (is_in (tree_names t.root branches) name ≡ true) ⊎ (is_in (forest_names (before ++ after)) name ≡ true)
-    in_one name true e either = inl e
-    in_one name false e either = inr (sym (ap (λ b. b || is_in (forest_names (before ++ after)) name) e) ∙ either)
-
-    by : (d name : ℕ) → is_in (leaves nodes) d ≡ true → cover_of nodes d ≡ Some name
-        → (is_in (tree_names t.root branches) name ≡ true) ⊎ (is_in (forest_names (before ++ after)) name ≡ true)
-        → height_of (all_cuts nodes) d % 2 ≡ r
-    by d name leaf cover (inl here) = found.parity d name leaf cover here
-    by d name leaf cover (inr there) =
-        state.parity d name leaf cover
-        (sym
-        (same_permuted (forest_names (before ++ t ∷ after)) (tree_names t.root t.branches ++ forest_names (before ++ after))
-        (names_first before after t) name)
-        ∙ is_in-right (tree_names t.root t.branches) (forest_names (before ++ after)) name there)
 
 pub forest_attached : ForestAttached
 forest_attached p nodes before after t e rest unmatched r even state parent tree matched links =
@@ -306,8 +334,4 @@ forest_attached p nodes before after t e rest unmatched r even state parent tree
         later (inl same) =
             ap (is_in (forest_names (before ++ after))) (sym same)
             ∙ new e.plus e.minus (connects_sym nodes e.matched e.minus e.plus matched)
-        later (inr here) =
-            distinct_across (tree_names t.root t.branches) (forest_names (before ++ after)) n
-            (distinct_permuted (forest_names (before ++ t ∷ after)) (tree_names t.root t.branches ++ forest_names (before ++ after))
-            (names_first before after t) state.names)
-            here
+        later (inr here) = tree_apart p nodes before after t (e.matched ∷ rest) unmatched r state n here

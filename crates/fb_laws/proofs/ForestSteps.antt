@@ -1,12 +1,12 @@
 -- Several trees begin at all unmatched nodes, and step together.
-use Rattle.std.proofs.Common.{ℕ, ◌≡◌, ◌+◌, ◌%◌, ◌||◌, ◌⊎◌, inl, inr, Bool, true, false, List, [], ◌∷◌, ◌++◌, map, All, Some, get_or, refl, sym, ap, ◌∙◌, subst}
+use Rattle.std.proofs.Common.{ℕ, ◌≡◌, ◌⊎◌, inl, inr, Bool, true, false, List, [], ◌∷◌, ◌++◌, map, All, Some, get_or, refl, sym, ap, ◌∙◌, subst}
 use Rattle.std.proofs.lemmas.Bool.{both_ways, false≢true, false_from_ne_true, or_cases}
 use Rattle.std.proofs.lemmas.List.Elements.{All-nil, All-head, All-tail, All-append, All-map}
 use Rattle.fb_graph.specs.Parity.{is_in}
 use Rattle.fb_graph.specs.Problem.{Problem}
 use Rattle.fb_graph.specs.Certificate.{AreDistinct}
 use Rattle.fb_graph.specs.Laws.{Link}
-use Rattle.fb_graph.specs.Dual.{AreOuterApart, Node, all_cuts, cover_of, is_outer, leaves}
+use Rattle.fb_graph.specs.Dual.{AreOuterApart, Node, all_cuts, cover_of, is_outer, leaves, top_at}
 use Rattle.fb_graph.specs.Steps.{Roles, stepped_nodes}
 use Rattle.fb_graph.specs.Covers.{AreRoles, is_covered_by}
 use Rattle.fb_graph.specs.Links.{IsTightLink, pair}
@@ -17,8 +17,8 @@ use Rattle.fb_graph.proofs.StepHeights.{cover_stepped, leaves_stepped}
 use Rattle.fb_graph.proofs.StepLoads.{tight_stepped}
 use Rattle.fb_laws.specs.Fusion.{IsLinkOf}
 use Rattle.fb_laws.specs.Opening.{EndAtDefects, EndsAtDefects}
-use Rattle.fb_laws.specs.Works.{IsMatching}
-use Rattle.fb_laws.specs.Trees.{Entry, IsTree, grown_links, minus_names, paired_links, plus_names, tree_names}
+use Rattle.fb_laws.specs.Works.{IsMatching, IsSetOf}
+use Rattle.fb_laws.specs.Trees.{IsTree, grown_links, minus_names, paired_links, plus_names, tree_names}
 use Rattle.fb_laws.specs.Searches.{IsOuterNode}
 use Rattle.fb_laws.specs.Forests.{ForestBegins, ForestLevel, ForestRoles, ForestStepped, IsForest, TreeOf, bare_tree, forest_grown, forest_minus, forest_names, forest_paired, forest_plus, forest_roles, forest_roots, from_each}
 use Rattle.fb_laws.proofs.ForestStates.{IsHeld, forest_tree, held_by, rest_beside}
@@ -110,7 +110,7 @@ roles_in_forest (t ∷ ts) n has =
     by (inr h) rest = there (rest h)
 
 -- no node has both
-exclusive_forest : (trees : List (TreeOf Link)) → AreDistinct (forest_names trees) → (n : ℕ) → is_in (forest_plus trees) n ≡ true
+pub exclusive_forest : (trees : List (TreeOf Link)) → AreDistinct (forest_names trees) → (n : ℕ) → is_in (forest_plus trees) n ≡ true
     → is_in (forest_minus trees) n ≡ true → ⊥
 exclusive_forest [] distinct n plus minus = false≢true plus
 exclusive_forest (t ∷ ts) distinct n plus minus =
@@ -159,16 +159,19 @@ each_level roles nodes apart are (t ∷ ts) joined plus minus =
 module _ (p : Problem) (nodes : List Node) (trees : List (TreeOf Link)) (rest : List Link) (unmatched : List ℕ) (r : ℕ)
     (state : IsForest p nodes trees rest unmatched r) where
   -- a name in a tree is that of an outer node
-  name_outer : (name : ℕ) → is_in (forest_names trees) name ≡ true → is_outer nodes name ≡ true
-  name_outer name among = by (held_by trees name among)
+  pub name_set : (name : ℕ) → is_in (forest_names trees) name ≡ true → IsSetOf nodes name (top_at nodes name)
+  name_set name among = by (held_by trees name among)
     where
-      by : IsHeld trees name → is_outer nodes name ≡ true
+      by : IsHeld trees name → IsSetOf nodes name (top_at nodes name)
       by held =
           let moved : IsForest p nodes (held.before ++ held.tree ∷ held.after) rest unmatched r =
           subst (λ ts. IsForest p nodes ts rest unmatched r) held.there state in
           let found = forest_tree p nodes held.before held.after held.tree rest unmatched r moved in
-          (named_set p nodes held.tree.branches (forest_paired (held.before ++ held.after) ++ rest) unmatched held.tree.root r found name
-          held.has).2
+          named_set p nodes held.tree.branches (forest_paired (held.before ++ held.after) ++ rest) unmatched held.tree.root r found name
+          held.has
+
+  name_outer : (name : ℕ) → is_in (forest_names trees) name ≡ true → is_outer nodes name ≡ true
+  name_outer name among = (name_set name among).2
 
   pub are_forest_roles : AreRoles (forest_roles trees) nodes
   are_forest_roles = record {

@@ -152,7 +152,7 @@ module _ (p : Problem) (nodes : List Node) (name : ℕ) (base : Child) (others :
   pub leaves_formed : leaves (nodes ++ blossom_of name (base ∷ others) ∷ []) ≡ leaves nodes
   leaves_formed = leaves_merged nodes (blossom_of name (base ∷ others) ∷ []) ∙ append-nil (leaves nodes)
 
-  sums_formed : (test : List ℕ → Bool) → weigh test (all_cuts (nodes ++ blossom_of name (base ∷ others) ∷ [])) ≡ weigh test (all_cuts nodes)
+  pub sums_formed : (test : List ℕ → Bool) → weigh test (all_cuts (nodes ++ blossom_of name (base ∷ others) ∷ [])) ≡ weigh test (all_cuts nodes)
   sums_formed test =
       ap (weigh test) (cuts_merged nodes (blossom_of name (base ∷ others) ∷ []))
       ∙ omega (
@@ -162,7 +162,7 @@ module _ (p : Problem) (nodes : List Node) (name : ℕ) (base : Child) (others :
         cond_zero (test (concat (sets_of (base ∷ others)))),
       )
 
-  links_formed : (links : List Link) → AreMatchedLinks p nodes links → AreMatchedLinks p (nodes ++ blossom_of name (base ∷ others) ∷ []) links
+  pub links_formed : (links : List Link) → AreMatchedLinks p nodes links → AreMatchedLinks p (nodes ++ blossom_of name (base ∷ others) ∷ []) links
   links_formed links tight = record {
     tight = λ i d less. record {
       walk = (tight.tight i d less).walk;

@@ -16,7 +16,7 @@ use Rattle.fb_graph.specs.Counts.{as_count}
 use Rattle.fb_graph.specs.Covers.{HaveParity}
 use Rattle.fb_graph.specs.Ends.{ends_in}
 use Rattle.fb_laws.specs.Opening.{EndAtDefects, EndsAtDefects}
-use Rattle.fb_laws.specs.Works.{AreMatchedLinks, IsSetOf, IsMatching, names_without}
+use Rattle.fb_laws.specs.Works.{AreMatchedLinks, IsSetOf, IsMatching}
 use Rattle.fb_laws.specs.Trees.{Entry, Connects, IsTree, grown_links, paired_links, tree_names}
 use Rattle.fb_laws.specs.SearchLayers.{SearchAlike}
 use Rattle.fb_graph.specs.Alike.{AreAlike, TallerCovered}
@@ -51,14 +51,14 @@ module _ (p : Problem) (nodes others : List Node) (alike : AreAlike nodes others
   before : (d : ℕ) → is_in (leaves others) d ≡ true → is_in (leaves nodes) d ≡ true
   before d leaf = ap (λ l. is_in l d) (sym alike.defects) ∙ leaf
 
-  cover_before : (d name : ℕ) → is_in (leaves others) d ≡ true → cover_of others d ≡ Some name → cover_of nodes d ≡ Some name
+  pub cover_before : (d name : ℕ) → is_in (leaves others) d ≡ true → cover_of others d ≡ Some name → cover_of nodes d ≡ Some name
   cover_before d name leaf cover = sym (alike.covers d (before d leaf)) ∙ cover
 
   pub parity_alike : (test : ℕ → Bool) (r : ℕ) → HaveParity test nodes r → HaveParity test others r
   parity_alike test r parity d name leaf cover passing =
       ap (λ h. h % 2) (alike.heights d) ∙ parity d name (before d leaf) (cover_before d name leaf cover) passing
 
-  links_alike : (links : List Link) → AreMatchedLinks p nodes links → AreMatchedLinks p others links
+  pub links_alike : (links : List Link) → AreMatchedLinks p nodes links → AreMatchedLinks p others links
   links_alike links are = record {
     tight = λ i d less. record {
       walk = (are.tight i d less).walk;
@@ -78,7 +78,7 @@ module _ (p : Problem) (nodes others : List Node) (alike : AreAlike nodes others
     tree_alike root es (All-tail (EndsAtDefects p (leaves nodes)) e.tree (grown_links es) grown) (All-tail (EndsAtDefects p (leaves nodes)) e.matched (paired_links es) paired) joined,
   )
 
-  matching_alike : (links : List Link) (unmatched : List ℕ) → IsMatching p nodes links unmatched → IsMatching p others links unmatched
+  pub matching_alike : (links : List Link) (unmatched : List ℕ) → IsMatching p nodes links unmatched → IsMatching p others links unmatched
   matching_alike links unmatched work = record {
     dual = dual;
     defects = λ v real. work.defects v real ∙ ap (λ l. is_in l v) (sym alike.defects);

@@ -5,7 +5,12 @@ pub mod CycleWays
 pub mod DifferingCuts
 pub mod ExchangedDefects
 pub mod FallingRanks
+pub mod ForestBlossoms
 pub mod ForestEnds
+pub mod ForestMeasures
+pub mod ForestMoves
+pub mod ForestOpenings
+pub mod ForestParts
 pub mod ForestStates
 pub mod ForestSteps
 pub mod FormedNodes
@@ -40,6 +45,7 @@ pub mod PartBounds
 pub mod PartStates
 pub mod PathNodes
 pub mod PathSums
+pub mod PermutedTrees
 pub mod PotentialParities
 pub mod RenamedNames
 pub mod RenamedStates
@@ -67,4 +73,5 @@ pub mod StepLengths
 pub mod StepLinks
 pub mod TreeCycles
 pub mod TreePaths
+pub mod TreesBeside
 pub mod UnmatchedNames

@@ -5,19 +5,26 @@ use Rattle.std.proofs.lemmas.Bool.{both_ways, false_from_ne_true}
 use Rattle.std.proofs.lemmas.List.{length-map, map-append}
 use Rattle.std.proofs.lemmas.List.Sorted.{All-permutation, IsPermutation-append, IsPermutation-append_comm, IsPermutation-append_left, IsPermutation-append_right, IsPermutation-cons, IsPermutation-filter_both, IsPermutation-map, IsPermutation-middle, IsPermutation-refl, IsPermutation-sym, IsPermutation-trans}
 use Rattle.fb_graph.specs.Parity.{is_in}
+use Rattle.fb_graph.specs.Problem.{Problem}
+use Rattle.fb_graph.specs.Laws.{Link}
+use Rattle.fb_graph.specs.Nests.{IsNest}
 use Rattle.fb_graph.specs.Certificate.{AreDistinct}
 use Rattle.fb_graph.proofs.Among.{IsAmong, All_among, among_All, among_either, among_left, among_right, among_filter}
 use Rattle.fb_graph.proofs.Sets.{is_in-cases, is_in-head, is_in-tail}
 use Rattle.fb_laws.specs.LinkNumbers.{BranchesCounted, CycleCounted, LinksEnded, LinksJoined, LinksOpened, links_dropped, links_matched, tree_links}
 use Rattle.fb_laws.specs.OpenedCycles.{PassOf, grown_on, matched_on, opened_branches, opened_tree}
 use Rattle.fb_laws.specs.SearchBlossoms.{child_at, inner_branches, joined_tree, outer_branches, renamed_entry}
-use Rattle.fb_laws.specs.TreeCycles.{cycle_links, cycle_nodes, last_plus, links_along, links_back, nodes_along, nodes_back}
-use Rattle.fb_laws.specs.Trees.{EntryOf, branches_beside, grown_links, minus_names, paired_links, path_to}
+use Rattle.fb_laws.specs.PartStates.{SearchState}
+use Rattle.fb_laws.specs.Searches.{IsSearch}
+use Rattle.fb_laws.specs.StateBlossoms.{MayClose}
+use Rattle.fb_laws.specs.TreeCycles.{ArePaths, cycle_links, cycle_nodes, last_plus, links_along, links_back, nodes_along, nodes_back}
+use Rattle.fb_laws.specs.Trees.{Entry, EntryOf, branches_beside, grown_links, minus_names, paired_links, path_to}
 use Rattle.fb_laws.proofs.MergedParts.{distinct_across}
 use Rattle.fb_laws.proofs.OpenedCycles.{new_grown, new_paired}
 use Rattle.fb_laws.proofs.SearchTrees.{path_beside}
-use Rattle.fb_laws.proofs.StateBlossoms.{closed_joining, closed_names}
+use Rattle.fb_laws.proofs.StateBlossoms.{ring_joining}
 use Rattle.fb_laws.proofs.PathNodes.{length_back}
+use Rattle.fb_laws.proofs.TreeCycles.{names_at}
 use Rattle.fb_laws.proofs.TreePaths.{length_along}
 use Rattle.fb_graph.proofs.Floods.{is_in-both, is_in-left, is_in-right}
 use Rattle.fb_graph.proofs.Members.{distinct_left}
@@ -279,10 +286,15 @@ links_joined_in joined name a b closing tree shared up down paths is =
         (IsPermutation-trans _ _ _ (IsPermutation-append_comm (tree_links within) (tree_links off))
         (IsPermutation-append_right (tree_links off) (tree_links within) (tree_links (up ++ down)) inner_links)))
 
-pub cycle_counted : CycleCounted
-cycle_counted p s name a b closing shared up down may paths state =
-    let is = closed_joining p s name a b closing shared up down may paths state in
-    let named = closed_names p s name a b closing shared up down may paths state in (
+-- whatever links there are beside the tree
+pub cycle_in_search : (p : Problem) (s : SearchState) (name a b : ℕ) (closing : Link) (shared up down : List Entry)
+    → MayClose p s name a b closing → ArePaths s.tree a b shared up down → (rest : List Link) → IsNest p s.nodes
+    → IsSearch p s.nodes s.tree rest s.unmatched s.root s.parity
+    → AreDistinct (last_plus s.root shared ∷ cycle_nodes up down)
+    × (length (inner_branches (is_in (last_plus s.root shared ∷ cycle_nodes up down)) s.tree) ≡ length up + length down)
+cycle_in_search p s name a b closing shared up down may paths rest nest search =
+    let is = ring_joining p s name a b closing shared up down may paths rest nest search in
+    let named = names_at s.nodes (cycle_nodes up down) in (
       subst (λ names. AreDistinct (last_plus s.root shared ∷ names)) named is.distinct,
       subst (λ names. length (inner_branches (is_in (last_plus s.root shared ∷ names)) s.tree) ≡ length up + length down) named
           (omega (
@@ -294,6 +306,10 @@ cycle_counted p s name a b closing shared up down may paths state =
             length_back down,
           )),
     )
+
+pub cycle_counted : CycleCounted
+cycle_counted p s name a b closing shared up down may paths state =
+    cycle_in_search p s name a b closing shared up down may paths s.rest state.search.nest state.search.search
 
 inner_length : {L : Type 0} (joined : ℕ → Bool) (tree : List (EntryOf L))
     → length (inner_branches joined tree) ≡ length (filter joined (minus_names tree))

@@ -1,20 +1,24 @@
 -- What each step of a search leaves to do.
-use Rattle.std.proofs.Common.{ℕ, ◌≡◌, ◌+◌, ◌≤◌, ◌<◌, ◌==◌, ◌&&◌, ◌||◌, ◌⊎◌, inl, inr, not, Bool, true, false, cond, List, [], ◌∷◌, ◌++◌, length, Some, get_or, count_by, refl, sym, ap, ◌∙◌, arith}
+use Rattle.std.proofs.Common.{ℕ, ◌≡◌, ◌+◌, ◌≤◌, ◌<◌, ◌==◌, ◌&&◌, ◌||◌, ◌⊎◌, inl, inr, not, Bool, true, false, cond, List, [], ◌∷◌, ◌++◌, length, Some, get_or, count_by, All, refl, sym, ap, ◌∙◌, arith}
 use Rattle.std.proofs.Math.Bool.{and-true}
 use Rattle.std.specs.List.{range_with_len}
 use Rattle.std.proofs.lemmas.Bool.{both_ways, false≢true, cases_Bool, eqb-true, and_parts, and_left, not_from_true, not_from_false, false_from_ne_true}
 use Rattle.std.proofs.lemmas.List.{length_push}
 use Rattle.std.proofs.lemmas.List.Sums.{sum_by-cons, sum_by-append}
 use Rattle.fb_graph.specs.Parity.{is_in}
-use Rattle.fb_graph.specs.Dual.{Node, leaves, cover_of, is_empty, is_live, is_outer, layers_of, node_at, no_node, change_at, taller_node}
+use Rattle.fb_graph.specs.Problem.{Problem}
+use Rattle.fb_graph.specs.Dual.{IsDual, Node, leaves, cover_of, is_empty, is_live, is_outer, layers_of, node_at, no_node, change_at, taller_node, top_at}
 use Rattle.fb_graph.proofs.Sets.{is_in-head, is_in-tail, is_in-range, All-from_is_in, member_of_odd}
 use Rattle.fb_graph.proofs.Sums.{sum_same, sum_le, count_by-le}
 use Rattle.fb_graph.specs.Counts.{as_count}
 use Rattle.fb_graph.specs.Covers.{is_covered_by, passes}
 use Rattle.fb_graph.specs.Steps.{Roles, stepped_nodes, stepped_node}
-use Rattle.fb_laws.specs.Trees.{plus_names, minus_names, tree_names}
-use Rattle.fb_laws.specs.SearchLayers.{defects_beside, blossoms_beside, layers_in, FreeLowers, AttachLowers, AbsorbLowers, UncoverLowers}
-use Rattle.fb_laws.specs.Forming.{blossom_of, names_of}
+use Rattle.fb_laws.specs.Measures.{IsLower}
+use Rattle.fb_laws.specs.Searches.{IsOuterNode}
+use Rattle.fb_laws.specs.Trees.{plus_names, minus_names, roles_of, tree_names}
+use Rattle.fb_laws.specs.Works.{IsSetOf}
+use Rattle.fb_laws.specs.SearchLayers.{defects_beside, blossoms_beside, layers_in, left_to_do, FreeLowers, AttachLowers, AbsorbLowers, UncoverLowers}
+use Rattle.fb_laws.specs.Forming.{Child, blossom_of, names_of}
 use Rattle.fb_laws.specs.SearchOpenings.{OpenedLowers}
 use Rattle.fb_laws.specs.SearchBlossoms.{renamed_name, joined_tree, JoinedLowers}
 use Rattle.fb_graph.proofs.Crossings.{cover_found, some_passes}
@@ -101,20 +105,26 @@ free_lowers p nodes roles k =
       ),
     )
 
+-- a node that is plus newly
+pub plus_lowers : (p : Problem) (nodes : List Node) (roles later : Roles) (name : ℕ) (free freed : Bool) → IsOuterNode nodes name
+    → roles.is_plus name ≡ false → later.is_plus name ≡ true → ((n : ℕ) → roles.is_plus n ≡ true → later.is_plus n ≡ true)
+    → IsLower (left_to_do p nodes later freed) (left_to_do p nodes roles free)
+plus_lowers p nodes roles later name free freed (d, leaf, covered) not_plus plus wider =
+    inl
+    (defects_fall later.is_plus roles.is_plus nodes nodes d refl
+    (λ v among over.
+    let (n, is, passing) = some_passes roles.is_plus (cover_of nodes v) over in
+    ap (passes later.is_plus) is ∙ wider n passing)
+    leaf (ap (passes later.is_plus) covered ∙ plus) (ap (passes roles.is_plus) covered ∙ not_plus))
+
 pub attach_lowers : AttachLowers
 attach_lowers p nodes tree e rest unmatched root r free freed state =
     let (w, cover) = connected nodes e.matched e.plus e.minus (connects_sym nodes e.matched e.minus e.plus state.joined.2) in
     let (d, leaf, covered, same) = state.matching.dual.parity w e.plus cover in
-    inl
-    (defects_fall (is_in (plus_names root (e ∷ tree))) (is_in (plus_names root tree)) nodes nodes d refl
-    (λ v among over.
-    let (name, is, passing) = some_passes (is_in (plus_names root tree)) (cover_of nodes v) over in
-    ap (passes (is_in (plus_names root (e ∷ tree)))) is ∙ is_in-tail e.plus (plus_names root tree) name passing)
-    leaf
-    (ap (passes (is_in (plus_names root (e ∷ tree)))) covered ∙ is_in-head e.plus (plus_names root tree))
-    (ap (passes (is_in (plus_names root tree))) covered
-    ∙ false_from_ne_true (is_in (plus_names root tree) e.plus)
-    (λ plus. both_ways (is_in (tree_names root tree) e.plus) state.names.1.0 (plus_in_tree root tree e.plus plus))))
+    plus_lowers p nodes (roles_of root tree) (roles_of root (e ∷ tree)) e.plus free freed (d, leaf, covered)
+    (false_from_ne_true (is_in (plus_names root tree) e.plus)
+    (λ plus. both_ways (is_in (tree_names root tree) e.plus) state.names.1.0 (plus_in_tree root tree e.plus plus)))
+    (is_in-head e.plus (plus_names root tree)) (λ n plus. is_in-tail e.plus (plus_names root tree) n plus)
 
 taller_names : (name v : ℕ) (test : ℕ → Bool) (nodes : List Node) → blossoms_beside test (change_at name (taller_node v) nodes) ≡ blossoms_beside test nodes
 taller_names name v test [] = refl
@@ -253,37 +263,54 @@ uncover_lowers p nodes roles name v free freed no_leaf minus not_plus live outer
             ∙ (ap (passes roles.is_plus) (taller_covered nodes name v live outer none) ∙ not_plus)) over)
         step (inr other) = ap (passes roles.is_plus) (sym (taller_covers nodes name v x other)) ∙ over
 
-pub joined_lowers : JoinedLowers
-joined_lowers p nodes tree rest unmatched root r name base others minus free freed joining dual state minus_is among =
+-- an outer node is over a defect
+pub set_outer : (p : Problem) (nodes : List Node) (name : ℕ) → IsDual p nodes → IsSetOf nodes name (top_at nodes name)
+    → IsOuterNode nodes name
+set_outer p nodes name dual (i, less, outer, is, same) =
+    let (d, within, leaf) =
+    member_of_odd (is_in (leaves nodes)) (node_at nodes i).top.vertices (odd_top p nodes i dual less).odd in
+    (d, leaf, cover_found nodes d dual.apart i no_node less (ap (is_outer nodes) is ∙ outer) within ∙ ap Some is)
+
+-- a blossom of nodes of which one wasn't plus
+pub blossom_lowers : (p : Problem) (nodes : List Node) (roles later : Roles) (name : ℕ) (base : Child) (others : List Child)
+    (minus : ℕ) (free freed : Bool) → All (λ c. IsSetOf nodes c.name c.set) (base ∷ others) → IsDual p nodes
+    → IsDual p (nodes ++ blossom_of name (base ∷ others) ∷ [])
+    → is_outer (nodes ++ blossom_of name (base ∷ others) ∷ []) name ≡ true
+    → ((n : ℕ) → roles.is_plus n ≡ true → later.is_plus (renamed_name (is_in (names_of (base ∷ others))) name n) ≡ true)
+    → roles.is_plus base.name ≡ true → IsOuterNode nodes minus → roles.is_plus minus ≡ false
+    → is_in (names_of (base ∷ others)) minus ≡ true
+    → IsLower (left_to_do p (nodes ++ blossom_of name (base ∷ others) ∷ []) later freed) (left_to_do p nodes roles free)
+blossom_lowers p nodes roles later name base others minus free freed are old dual fresh wider base_plus (d, leaf, covered) not_plus among =
     inl
-    (defects_fall (is_in (plus_names (renamed_name joined name root) (joined_tree joined name tree))) (is_in (plus_names root tree)) nodes
-    (nodes ++ blossom_of name (base ∷ others) ∷ []) found.0
-    (leaves_formed p nodes name base others joining.nodes_are state.matching.dual dual joining.fresh)
-    (λ v leaf over.
-    let (n, is, plus) = some_passes (is_in (plus_names root tree)) (cover_of nodes v) over in
-    ap (passes (is_in (plus_names (renamed_name joined name root) (joined_tree joined name tree))))
-    (cover_formed p nodes name base others joining.nodes_are state.matching.dual dual joining.fresh v n is)
-    ∙ plus_kept joined name base.name root nodes tree state.joined joining.branches n plus)
-    found.1
-    (ap (passes (is_in (plus_names (renamed_name joined name root) (joined_tree joined name tree))))
-    (cover_formed p nodes name base others joining.nodes_are state.matching.dual dual joining.fresh found.0 minus found.2)
-    ∙ (ap (is_in (plus_names (renamed_name joined name root) (joined_tree joined name tree)))
-    (new_in joined name base.name root minus among ∙ sym (new_in joined name base.name root base.name (is_in-head base.name (names_of others))))
-    ∙ plus_kept joined name base.name root nodes tree state.joined joining.branches base.name joining.plus))
-    (ap (passes (is_in (plus_names root tree))) found.2
-    ∙ false_from_ne_true (is_in (plus_names root tree) minus)
-    (λ plus. both_ways (is_in (minus_names tree) minus) (exclusive_names root tree state.names minus plus) minus_is)))
+    (defects_fall later.is_plus roles.is_plus nodes (nodes ++ blossom_of name (base ∷ others) ∷ []) d
+    (leaves_formed p nodes name base others are old dual fresh)
+    (λ v at over.
+    let (n, is, plus) = some_passes roles.is_plus (cover_of nodes v) over in
+    ap (passes later.is_plus) (cover_formed p nodes name base others are old dual fresh v n is) ∙ wider n plus)
+    leaf
+    (ap (passes later.is_plus) (cover_formed p nodes name base others are old dual fresh d minus covered)
+    ∙ (ap later.is_plus
+    (new_in joined name base.name base.name minus among
+    ∙ sym (new_in joined name base.name base.name base.name (is_in-head base.name (names_of others))))
+    ∙ wider base.name base_plus))
+    (ap (passes roles.is_plus) covered ∙ not_plus))
   where
     joined : ℕ → Bool
     joined = is_in (names_of (base ∷ others))
 
-    -- a defect under the minus node
-    found : (d : ℕ) × (is_in (leaves nodes) d ≡ true) × (cover_of nodes d ≡ Some minus)
-    found =
-        let (i, less, outer, is, same) = named_set p nodes tree rest unmatched root r state minus (minus_in_tree root tree minus minus_is) in
-        let (d, within, leaf) =
-        member_of_odd (is_in (leaves nodes)) (node_at nodes i).top.vertices (odd_top p nodes i state.matching.dual less).odd in
-        (d, leaf, cover_found nodes d state.matching.dual.apart i no_node less (ap (is_outer nodes) is ∙ outer) within ∙ ap Some is)
+pub joined_lowers : JoinedLowers
+joined_lowers p nodes tree rest unmatched root r name base others minus free freed joining dual state minus_is among =
+    blossom_lowers p nodes (roles_of root tree) (roles_of (renamed_name joined name root) (joined_tree joined name tree)) name base
+    others minus free freed joining.nodes_are state.matching.dual dual joining.fresh
+    (plus_kept joined name base.name root nodes tree state.joined joining.branches) joining.plus
+    (set_outer p nodes minus state.matching.dual
+    (named_set p nodes tree rest unmatched root r state minus (minus_in_tree root tree minus minus_is)))
+    (false_from_ne_true (is_in (plus_names root tree) minus)
+    (λ plus. both_ways (is_in (minus_names tree) minus) (exclusive_names root tree state.names minus plus) minus_is))
+    among
+  where
+    joined : ℕ → Bool
+    joined = is_in (names_of (base ∷ others))
 
 pub opened_lowers : OpenedLowers
 opened_lowers p before after b children roles later free freed split not_plus has wider =

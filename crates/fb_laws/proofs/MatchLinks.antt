@@ -78,7 +78,7 @@ covers_some p nodes name dual live outer =
 module _ (p : Problem) (nodes : List Node) (links : List Link) (name : ℕ) (dual : IsDual p nodes) (are : AreMatchedLinks p nodes links)
     (outer : IsSetOf nodes name (top_at nodes name)) where
   -- a vertex of the node's set is under it
-  under : (v : ℕ) → is_in (top_at nodes name) v ≡ true → cover_of nodes v ≡ Some name
+  pub under : (v : ℕ) → is_in (top_at nodes name) v ≡ true → cover_of nodes v ≡ Some name
   under v within =
       let (i, less, out, named, same) = outer in
       cover_found nodes v dual.apart i no_node less (ap (is_outer nodes) named ∙ out) (ap (λ s. is_in s v) same ∙ within)
@@ -115,7 +115,7 @@ module _ (p : Problem) (nodes : List Node) (links : List Link) (name : ℕ) (dua
       step false true from to = to_here (under l.to to) from (cases_Bool (p.is_real l.from))
       step false false from to = absurd (omega (arith, one, ap as_count from, ap as_count to))
 
-  match_among : ends_in (top_at nodes name) links ≡ 1 → HasMatch p nodes links name
+  pub match_among : ends_in (top_at nodes name) links ≡ 1 → HasMatch p nodes links name
   match_among one =
       let found = one_end (top_at nodes name) links one in (
         found.before,
@@ -132,7 +132,7 @@ module _ (p : Problem) (nodes : List Node) (links : List Link) (name : ℕ) (dua
         },
       )
 
-set_of : (p : Problem) (nodes : List Node) (name : ℕ) → IsDual p nodes → is_live nodes name ≡ true → is_outer nodes name ≡ true
+pub set_of : (p : Problem) (nodes : List Node) (name : ℕ) → IsDual p nodes → is_live nodes name ≡ true → is_outer nodes name ≡ true
     → IsSetOf nodes name (top_at nodes name)
 set_of p nodes name dual live outer =
     let (v, cover) = covers_some p nodes name dual live outer in
@@ -145,7 +145,7 @@ match_of p nodes links unmatched name work live outer taken =
     match_among p nodes links name work.dual work.links_are set (omega (arith, one, ap as_count taken))
 
 -- the matched links of a tree end under its nodes alone
-none_in_tree : (nodes : List Node) (root : ℕ) (tree : List Entry) (name : ℕ) → AreDistinct (map (λ n. n.name) nodes)
+pub none_in_tree : (nodes : List Node) (root : ℕ) (tree : List Entry) (name : ℕ) → AreDistinct (map (λ n. n.name) nodes)
     → IsTree nodes root tree → is_in (tree_names root tree) name ≡ false
     → ((v n : ℕ) → cover_of nodes v ≡ Some n → (n ≡ name → ⊥) → is_in (top_at nodes name) v ≡ false)
     → ends_in (top_at nodes name) (paired_links tree) ≡ 0

@@ -231,7 +231,7 @@ absorbed_lowers p nodes roles name k u v free freed limits may nest plus =
     (ap (is_outer nodes) (sym over.named) ∙ over.outer) may.uncovered
 
 -- a branch that is taken in has a minus node
-some_minus : (test : ℕ → Bool) (tree : List Entry) → 1 ≤ length (inner_branches test tree)
+pub some_minus : (test : ℕ → Bool) (tree : List Entry) → 1 ≤ length (inner_branches test tree)
     → (m : ℕ) × (is_in (minus_names tree) m ≡ true) × (test m ≡ true)
 some_minus test [] some = absurd (let none : 1 ≤ 0 = some in omega arith)
 some_minus test (e ∷ es) some = step (test e.minus) refl some (some_minus test es)

@@ -185,7 +185,7 @@ nested_opened p nodes newer older tree e kept paired more rest later unmatched r
     }
 
 -- all but one of some outer names
-outer_without : (nodes : List Node) (root : ℕ) (names : List ℕ) → AreOuterNames nodes names
+pub outer_without : (nodes : List Node) (root : ℕ) (names : List ℕ) → AreOuterNames nodes names
     → AreOuterNames nodes (names_without root names)
 outer_without nodes root names =
     outer_fewer nodes names (names_without root names)

@@ -9,7 +9,7 @@ use Rattle.fb_graph.specs.Problem.{Problem}
 use Rattle.fb_graph.specs.Certificate.{load_of}
 use Rattle.fb_graph.specs.Laws.{Link}
 use Rattle.fb_graph.specs.Dual.{Node, all_cuts, is_empty, is_live, is_outer, leaves, top_at}
-use Rattle.fb_graph.specs.Moves.{MayJoin, blossom, joined_nodes}
+use Rattle.fb_graph.specs.Moves.{blossom, joined_nodes}
 use Rattle.fb_graph.specs.Nests.{IsNest, child_sets}
 use Rattle.fb_graph.proofs.Among.{IsAmong, All_among, among_All, among_either, among_left, among_live, among_outer, among_right, live_among, outer_among, top_left}
 use Rattle.fb_graph.proofs.AppendedNodes.{cuts_merged, leaves_merged}
@@ -18,7 +18,7 @@ use Rattle.fb_graph.proofs.NestParts.{map_agree}
 use Rattle.fb_graph.proofs.Sets.{All-from_is_in, is_in-All, is_in-cases, is_in-filter, is_in-head}
 use Rattle.fb_graph.proofs.TightLinks.{empty_layer_loads}
 use Rattle.fb_laws.specs.Forming.{Child, blossom_of, names_of}
-use Rattle.fb_laws.specs.PartStates.{IsRing, AreCycles, IsSearchState, SearchState, all_cycle_links, links_at}
+use Rattle.fb_laws.specs.PartStates.{IsRing, AreCycles, AreLiveNames, IsSearchState, SearchState, all_cycle_links, links_at}
 use Rattle.fb_laws.specs.SearchBlossoms.{IsJoining, child_at, renamed_name}
 use Rattle.fb_laws.specs.Searches.{IsSearch}
 use Rattle.fb_laws.specs.StateBlossoms.{MayClose, StateJoined, StateClosed, StateRounded, joined_state, with_cycle}
@@ -117,19 +117,24 @@ module _ (p : Problem) (nodes : List Node) (cycles : ℕ → List Link) (name fi
           (append-nil (with_cycle name links cycles name) ∙ ap (λ b. cond b links (cycles name)) (eq-eqb name name refl)))
 
 -- an unmatched node of the tree is its root
-pub unmatched_is_root : (p : Problem) (s : SearchState) → IsSearchState p s → (n : ℕ) → is_in (tree_names s.root s.tree) n ≡ true
-    → is_in s.unmatched n ≡ true → n ≡ s.root
-unmatched_is_root p s state n within open_ = step (n == s.root) refl
+pub open_is_root : (p : Problem) (nodes : List Node) (tree : List Entry) (rest : List Link) (unmatched : List ℕ) (root r : ℕ)
+    → IsSearch p nodes tree rest unmatched root r → (n : ℕ) → is_in (tree_names root tree) n ≡ true → is_in unmatched n ≡ true
+    → n ≡ root
+open_is_root p nodes tree rest unmatched root r search n within open_ = step (n == root) refl
   where
-    step : (b : Bool) → (n == s.root) ≡ b → n ≡ s.root
-    step true e = eqb-true n s.root e
+    step : (b : Bool) → (n == root) ≡ b → n ≡ root
+    step true e = eqb-true n root e
     step false e =
         absurd
-        (both_ways (is_in (tree_names s.root s.tree) n)
-        (unmatched_outside p s.nodes s.tree s.rest s.unmatched s.root s.parity state.search.search n
-        (is_in-filter (λ m. not (m == s.root)) s.unmatched n
-        ∙ and_from (is_in s.unmatched n) (not (n == s.root)) open_ (not_from_false (n == s.root) e)))
+        (both_ways (is_in (tree_names root tree) n)
+        (unmatched_outside p nodes tree rest unmatched root r search n
+        (is_in-filter (λ m. not (m == root)) unmatched n
+        ∙ and_from (is_in unmatched n) (not (n == root)) open_ (not_from_false (n == root) e)))
         within)
+
+pub unmatched_is_root : (p : Problem) (s : SearchState) → IsSearchState p s → (n : ℕ) → is_in (tree_names s.root s.tree) n ≡ true
+    → is_in s.unmatched n ≡ true → n ≡ s.root
+unmatched_is_root p s state = open_is_root p s.nodes s.tree s.rest s.unmatched s.root s.parity state.search.search
 
 pub child_in_tree : (root : ℕ) (tree : List Entry) (children : List Child) → All (λ c. is_in (tree_names root tree) c.name ≡ true) children
     → (n : ℕ) → is_in (names_of children) n ≡ true → is_in (tree_names root tree) n ≡ true
@@ -137,66 +142,87 @@ child_in_tree root tree children are n within =
     is_in-All (λ m. is_in (tree_names root tree) m ≡ true) (names_of children)
     (All-map (λ m. is_in (tree_names root tree) m ≡ true) (λ c. c.name) children are) n within
 
+-- the unmatched names after branches of a tree are joined
+module _ (p : Problem) (nodes : List Node) (tree : List Entry) (rest : List Link) (unmatched : List ℕ) (root r name : ℕ)
+    (base : Child) (others : List Child) (joining : IsJoining nodes tree root name base others) (some : 1 ≤ length others)
+    (fresh : is_live nodes name ≡ false) (names : AreLiveNames nodes unmatched) (search : IsSearch p nodes tree rest unmatched root r) where
+  abbrev joins : ℕ → Bool
+  joins = is_in (names_of (base ∷ others))
+
+  pub child_not_new : (n : ℕ) → is_in (names_of (base ∷ others)) n ≡ true → n ≡ name → ⊥
+  child_not_new n within same =
+      both_ways (is_live nodes name) fresh
+      (ap (is_live nodes) (sym same)
+      ∙ is_in-All (λ x. is_live nodes x ≡ true) (names_of (base ∷ others))
+      (joining_allowed nodes tree root name base others joining some fresh).live n within)
+
+  pub joined_renaming : IsRenaming (is_in (names_of (base ∷ others))) name base.name unmatched
+  joined_renaming = record {
+    fresh =
+        false_from_ne_true (is_in unmatched name)
+        (λ open_. both_ways (is_live nodes name) fresh (names.live name open_));
+    base_in = is_in-head base.name (names_of others);
+    alone = λ n open_ within.
+        let root_is : n ≡ root =
+        open_is_root p nodes tree rest unmatched root r search n (child_in_tree root tree (base ∷ others) joining.in_tree n within)
+        open_ in
+        root_is ∙ joining.branches.roots (ap joins (sym root_is) ∙ within);
+  }
+
+  pub joined_gone : (n : ℕ) → is_in (names_of (base ∷ others)) n ≡ true
+      → is_in (map (renamed_name (is_in (names_of (base ∷ others))) name) unmatched) n ≡ false
+  joined_gone n within = renamed_gone joins name n unmatched within (child_not_new n within)
+
+  pub joined_kept : (n : ℕ) → is_in (names_of (base ∷ others)) n ≡ false → (n ≡ name → ⊥)
+      → is_in (map (renamed_name (is_in (names_of (base ∷ others))) name) unmatched) n ≡ is_in unmatched n
+  joined_kept n out other = renamed_other joins name n unmatched out other
+
+  abbrev blossom_is : Node
+  blossom_is = blossom name (names_of (base ∷ others)) nodes
+
+  still_live : (n : ℕ) → is_in (map (renamed_name joins name) unmatched) n ≡ true → ((n == name) ≡ true) ⊎ ((n == name) ≡ false)
+      → (joins n ≡ true) ⊎ (joins n ≡ false) → is_live (joined_nodes name (names_of (base ∷ others)) nodes) n ≡ true
+  still_live n within (inl same) which =
+      among_live (joined_nodes name (names_of (base ∷ others)) nodes) blossom_is n
+      (among_right nodes (blossom_is ∷ []) blossom_is (inl refl)) (sym (eqb-true n name same))
+  still_live n within (inr other) (inl here) =
+      absurd (both_ways (is_in (map (renamed_name joins name) unmatched) n) (joined_gone n here) within)
+  still_live n within (inr other) (inr out) =
+      let open_ : is_in unmatched n ≡ true =
+      sym (joined_kept n out (λ same. both_ways (n == name) other (eq-eqb n name same))) ∙ within in
+      let (m, a, named) = live_among nodes n (names.live n open_) in
+      among_live (joined_nodes name (names_of (base ∷ others)) nodes) m n (among_left nodes (blossom_is ∷ []) m a) named
+
+  pub joined_names : AreLiveNames (joined_nodes name (names_of (base ∷ others)) nodes)
+      (map (renamed_name (is_in (names_of (base ∷ others))) name) unmatched)
+  joined_names = record {
+    live = λ n within. still_live n within (cases_Bool (n == name)) (cases_Bool (joins n));
+    distinct = renamed_distinct joins name base.name unmatched joined_renaming names.distinct;
+  }
+
 pub state_joined : StateJoined
 state_joined p s name base others links joining some fresh linked tight state = record {
   search =
-      nested_joined p s.nodes s.tree s.rest s.unmatched (map (renamed_name joins name) s.unmatched) s.root s.parity name base others
-      joining some fresh (renamed_new joins name base.name s.unmatched is) gone kept state.search;
+      nested_joined p s.nodes s.tree s.rest s.unmatched (map (renamed_name joins_ name) s.unmatched) s.root s.parity name base others
+      joining some fresh (renamed_new joins_ name base.name s.unmatched is)
+      (joined_gone p s.nodes s.tree s.rest s.unmatched s.root s.parity name base others joining some fresh state.names search)
+      (joined_kept p s.nodes s.tree s.rest s.unmatched s.root s.parity name base others joining some fresh state.names search)
+      state.search;
   cycles =
-      cycles_joined p s.nodes s.cycles name base.name (names_of others) links nest fresh may.live
-      (ring_of_linked s.nodes base.name (names_of others) links nest.dual.names linked) tight state.cycles;
-  names = record {
-    live = λ n within. live n within (cases_Bool (n == name)) (cases_Bool (joins n));
-    distinct = renamed_distinct joins name base.name s.unmatched is state.names.distinct;
-  };
+      cycles_joined p s.nodes s.cycles name base.name (names_of others) links state.search.nest fresh
+      (joining_allowed s.nodes s.tree s.root name base others joining some fresh).live
+      (ring_of_linked s.nodes base.name (names_of others) links state.search.nest.dual.names linked) tight state.cycles;
+  names = joined_names p s.nodes s.tree s.rest s.unmatched s.root s.parity name base others joining some fresh state.names search;
 }
   where
-    joins : ℕ → Bool
-    joins = is_in (names_of (base ∷ others))
+    joins_ : ℕ → Bool
+    joins_ = is_in (names_of (base ∷ others))
 
-    nest : IsNest p s.nodes
-    nest = state.search.nest
+    search : IsSearch p s.nodes s.tree s.rest s.unmatched s.root s.parity
+    search = state.search.search
 
-    may : MayJoin s.nodes name (names_of (base ∷ others))
-    may = joining_allowed s.nodes s.tree s.root name base others joining some fresh
-
-    not_new : (n : ℕ) → is_in (names_of (base ∷ others)) n ≡ true → n ≡ name → ⊥
-    not_new n within same =
-        both_ways (is_live s.nodes name) fresh
-        (ap (is_live s.nodes) (sym same) ∙ is_in-All (λ x. is_live s.nodes x ≡ true) (names_of (base ∷ others)) may.live n within)
-
-    is : IsRenaming joins name base.name s.unmatched
-    is = record {
-      fresh =
-          false_from_ne_true (is_in s.unmatched name)
-          (λ open_. both_ways (is_live s.nodes name) fresh (state.names.live name open_));
-      base_in = is_in-head base.name (names_of others);
-      alone = λ n open_ within.
-          let root_is : n ≡ s.root =
-          unmatched_is_root p s state n (child_in_tree s.root s.tree (base ∷ others) joining.in_tree n within) open_ in
-          root_is ∙ joining.branches.roots (ap joins (sym root_is) ∙ within);
-    }
-
-    gone : (n : ℕ) → is_in (names_of (base ∷ others)) n ≡ true → is_in (map (renamed_name joins name) s.unmatched) n ≡ false
-    gone n within = renamed_gone joins name n s.unmatched within (not_new n within)
-
-    kept : (n : ℕ) → is_in (names_of (base ∷ others)) n ≡ false → (n ≡ name → ⊥)
-        → is_in (map (renamed_name joins name) s.unmatched) n ≡ is_in s.unmatched n
-    kept n out other = renamed_other joins name n s.unmatched out other
-
-    b : Node
-    b = blossom name (names_of (base ∷ others)) s.nodes
-
-    live : (n : ℕ) → is_in (map (renamed_name joins name) s.unmatched) n ≡ true → ((n == name) ≡ true) ⊎ ((n == name) ≡ false)
-        → (joins n ≡ true) ⊎ (joins n ≡ false) → is_live (joined_nodes name (names_of (base ∷ others)) s.nodes) n ≡ true
-    live n within (inl same) which =
-        among_live (joined_nodes name (names_of (base ∷ others)) s.nodes) b n (among_right s.nodes (b ∷ []) b (inl refl))
-        (sym (eqb-true n name same))
-    live n within (inr other) (inl here) = absurd (both_ways (is_in (map (renamed_name joins name) s.unmatched) n) (gone n here) within)
-    live n within (inr other) (inr out) =
-        let open_ : is_in s.unmatched n ≡ true = sym (kept n out (λ same. both_ways (n == name) other (eq-eqb n name same))) ∙ within in
-        let (m, a, named) = live_among s.nodes n (state.names.live n open_) in
-        among_live (joined_nodes name (names_of (base ∷ others)) s.nodes) m n (among_left s.nodes (b ∷ []) m a) named
+    is : IsRenaming (is_in (names_of (base ∷ others))) name base.name s.unmatched
+    is = joined_renaming p s.nodes s.tree s.rest s.unmatched s.root s.parity name base others joining some fresh state.names search
 
 -- the further node is outer where its name is new and its children are nodes
 fresh_outer : (p : Problem) (nodes : List Node) (b : Node) → IsNest p nodes → is_live nodes b.name ≡ false
@@ -212,74 +238,93 @@ fresh_outer p nodes b nest fresh live =
     step q (inr (inr none)) = absurd none
 
 module _ (p : Problem) (s : SearchState) (name a b : ℕ) (closing : Link) (shared up down : List Entry) (may : MayClose p s name a b closing)
-    (paths : ArePaths s.tree a b shared up down) (state : IsSearchState p s) where
+    (paths : ArePaths s.tree a b shared up down) (rest : List Link) (nest : IsNest p s.nodes)
+    (search : IsSearch p s.nodes s.tree rest s.unmatched s.root s.parity) where
   abbrev first : ℕ
   first = last_plus s.root shared
 
-  pub closed_names : names_of (map (child_at s.nodes) (cycle_nodes up down)) ≡ cycle_nodes up down
-  closed_names = names_at s.nodes (cycle_nodes up down)
+  ring_names : names_of (map (child_at s.nodes) (cycle_nodes up down)) ≡ cycle_nodes up down
+  ring_names = names_at s.nodes (cycle_nodes up down)
 
-  closed_linked : AreLinked s.nodes (last_plus s.root shared) (cycle_nodes up down ++ last_plus s.root shared ∷ []) (cycle_links up closing down)
-  closed_linked =
-      cycle_linked p s.nodes s.tree s.rest s.unmatched s.root s.parity a b shared up down closing state.search.search may.first
+  ring_round : AreLinked s.nodes (last_plus s.root shared) (cycle_nodes up down ++ last_plus s.root shared ∷ []) (cycle_links up closing down)
+  ring_round =
+      cycle_linked p s.nodes s.tree rest s.unmatched s.root s.parity a b shared up down closing search may.first
       may.second paths may.connects
 
-  closed_live : (n : ℕ) → is_in (names_of (child_at s.nodes (last_plus s.root shared) ∷ map (child_at s.nodes) (cycle_nodes up down))) n ≡ true
+  ring_live : (n : ℕ) → is_in (names_of (child_at s.nodes (last_plus s.root shared) ∷ map (child_at s.nodes) (cycle_nodes up down))) n ≡ true
       → is_live s.nodes n ≡ true
-  closed_live n within =
-      linked_live s.nodes first (cycle_nodes up down ++ first ∷ []) (cycle_links up closing down) closed_linked n
-      (either (is_in-cases first (cycle_nodes up down) n (subst (λ names. is_in (first ∷ names) n ≡ true) closed_names within)))
+  ring_live n within =
+      linked_live s.nodes first (cycle_nodes up down ++ first ∷ []) (cycle_links up closing down) ring_round n
+      (either (is_in-cases first (cycle_nodes up down) n (subst (λ names. is_in (first ∷ names) n ≡ true) ring_names within)))
     where
       either : (first ≡ n) ⊎ (is_in (cycle_nodes up down) n ≡ true) → is_in (cycle_nodes up down ++ first ∷ []) n ≡ true
       either (inl here) =
           is_in-right (cycle_nodes up down) (first ∷ []) n (subst (λ m. is_in (first ∷ []) m ≡ true) here (is_in-head first []))
       either (inr there) = is_in-left (cycle_nodes up down) (first ∷ []) n there
 
-  pub closed_joining : IsJoining s.nodes s.tree s.root name (child_at s.nodes (last_plus s.root shared)) (map (child_at s.nodes) (cycle_nodes up down))
-  closed_joining =
-      cycle_joining p s.nodes s.tree s.rest s.unmatched s.root s.parity name a b shared up down state.search.search may.first
+  pub ring_joining : IsJoining s.nodes s.tree s.root name (child_at s.nodes (last_plus s.root shared)) (map (child_at s.nodes) (cycle_nodes up down))
+  ring_joining =
+      cycle_joining p s.nodes s.tree rest s.unmatched s.root s.parity name a b shared up down search may.first
       may.second paths
       (fresh_outer p s.nodes
-      (blossom_of name (child_at s.nodes first ∷ map (child_at s.nodes) (cycle_nodes up down))) state.search.nest may.fresh closed_live)
+      (blossom_of name (child_at s.nodes first ∷ map (child_at s.nodes) (cycle_nodes up down))) nest may.fresh ring_live)
 
-  pub closed_some : 1 ≤ length (map (child_at s.nodes) (cycle_nodes up down))
-  closed_some =
+  pub ring_some : 1 ≤ length (map (child_at s.nodes) (cycle_nodes up down))
+  ring_some =
       let many =
-      cycle_many p s.nodes s.tree s.rest s.unmatched s.root s.parity a b shared up down state.search.search may.first may.second
+      cycle_many p s.nodes s.tree rest s.unmatched s.root s.parity a b shared up down search may.first may.second
       paths may.differ in
       let three = many.three in
       omega (arith, three, length-map (cycle_nodes up down) (child_at s.nodes))
 
-  closed_tight : AreMatchedLinks p s.nodes (cycle_links up closing down)
-  closed_tight =
+  pub ring_tight : AreMatchedLinks p s.nodes (cycle_links up closing down)
+  ring_tight =
       links_among p s.nodes (cycle_links up closing down) ((closing ∷ []) ++ (grown_links s.tree ++ paired_links s.tree))
       (cycle_link_in s.tree up down closing
       (λ e h. path_among s.tree a e (subst (IsAmong e) (sym paths.first) (among_right shared up e h)))
       (λ e h. path_among s.tree b e (subst (IsAmong e) (sym paths.second) (among_right shared down e h))))
       (links_joined p s.nodes (closing ∷ []) (grown_links s.tree ++ paired_links s.tree) may.tight
-      (links_joined p s.nodes (grown_links s.tree) (paired_links s.tree) state.search.search.grown
-      (links_left p s.nodes (paired_links s.tree) s.rest state.search.search.matching.links_are)))
+      (links_joined p s.nodes (grown_links s.tree) (paired_links s.tree) search.grown
+      (links_left p s.nodes (paired_links s.tree) rest search.matching.links_are)))
 
-  pub closed : IsSearchState p (joined_state name (last_plus s.root shared ∷ cycle_nodes up down) (cycle_links up closing down) s)
-  closed =
-      subst (λ names. IsSearchState p (joined_state name (first ∷ names) (cycle_links up closing down) s)) closed_names
-      (state_joined p s name (child_at s.nodes first) (map (child_at s.nodes) (cycle_nodes up down)) (cycle_links up closing down)
-      closed_joining closed_some may.fresh
-      (subst (λ names. AreLinked s.nodes first (names ++ first ∷ []) (cycle_links up closing down)) (sym closed_names) closed_linked)
-      closed_tight state)
+  pub ring_linked : AreLinked s.nodes (last_plus s.root shared)
+      (names_of (map (child_at s.nodes) (cycle_nodes up down)) ++ last_plus s.root shared ∷ []) (cycle_links up closing down)
+  ring_linked =
+      subst (λ names. AreLinked s.nodes first (names ++ first ∷ []) (cycle_links up closing down)) (sym ring_names) ring_round
+
+-- for the tree of a search
+module _ (p : Problem) (s : SearchState) (name a b : ℕ) (closing : Link) (shared up down : List Entry) (may : MayClose p s name a b closing)
+    (paths : ArePaths s.tree a b shared up down) (state : IsSearchState p s) where
+  pub closed_names : names_of (map (child_at s.nodes) (cycle_nodes up down)) ≡ cycle_nodes up down
+  closed_names = names_at s.nodes (cycle_nodes up down)
+
+  pub closed_joining : IsJoining s.nodes s.tree s.root name (child_at s.nodes (last_plus s.root shared)) (map (child_at s.nodes) (cycle_nodes up down))
+  closed_joining = ring_joining p s name a b closing shared up down may paths s.rest state.search.nest state.search.search
+
+  pub closed_some : 1 ≤ length (map (child_at s.nodes) (cycle_nodes up down))
+  closed_some = ring_some p s name a b closing shared up down may paths s.rest state.search.nest state.search.search
 
 pub state_closed : StateClosed
-state_closed p s name a b closing shared up down may paths state = closed p s name a b closing shared up down may paths state
+state_closed p s name a b closing shared up down may paths state =
+    subst
+    (λ names. IsSearchState p (joined_state name (last_plus s.root shared ∷ names) (cycle_links up closing down) s))
+    (closed_names p s name a b closing shared up down may paths state)
+    (state_joined p s name (child_at s.nodes (last_plus s.root shared)) (map (child_at s.nodes) (cycle_nodes up down))
+    (cycle_links up closing down) (closed_joining p s name a b closing shared up down may paths state)
+    (closed_some p s name a b closing shared up down may paths state) may.fresh
+    (ring_linked p s name a b closing shared up down may paths s.rest state.search.nest state.search.search)
+    (ring_tight p s name a b closing shared up down may paths s.rest state.search.nest state.search.search) state)
 
 module _ (p : Problem) (s : SearchState) (name : ℕ) (newer older : List Entry) (e : Entry) (closing : Link)
     (tree_is : s.tree ≡ newer ++ e ∷ older) (closes : Connects s.nodes closing e.plus e.parent)
-    (tight : AreMatchedLinks p s.nodes (closing ∷ [])) (fresh : is_live s.nodes name ≡ false) (state : IsSearchState p s) where
+    (tight : AreMatchedLinks p s.nodes (closing ∷ [])) (fresh : is_live s.nodes name ≡ false) (rest : List Link)
+    (nest : IsNest p s.nodes) (search : IsSearch p s.nodes s.tree rest s.unmatched s.root s.parity) where
   within : IsAmong e s.tree
   within = subst (IsAmong e) (sym tree_is) (among_right newer (e ∷ older) e (inl refl))
 
-  rounded_linked : AreLinked s.nodes e.parent (e.minus ∷ e.plus ∷ e.parent ∷ []) (e.tree ∷ e.matched ∷ closing ∷ [])
+  pub rounded_linked : AreLinked s.nodes e.parent (e.minus ∷ e.plus ∷ e.parent ∷ []) (e.tree ∷ e.matched ∷ closing ∷ [])
   rounded_linked =
-      let both = tree_connects s.nodes s.root s.tree state.search.search.joined e within in
+      let both = tree_connects s.nodes s.root s.tree search.joined e within in
       (both.0, (both.1, (closes, tt)))
 
   rounded_live : (n : ℕ) → is_in (e.parent ∷ e.minus ∷ e.plus ∷ []) n ≡ true → is_live s.nodes n ≡ true
@@ -297,29 +342,29 @@ module _ (p : Problem) (s : SearchState) (name : ℕ) (newer older : List Entry)
       subst
       (λ t. IsJoining s.nodes t s.root name (child_at s.nodes e.parent) (child_at s.nodes e.minus ∷ child_at s.nodes e.plus ∷ []))
       (sym tree_is)
-      (three_joining p s.nodes newer older e s.rest s.unmatched s.root s.parity name
-      (subst (λ t. IsSearch p s.nodes t s.rest s.unmatched s.root s.parity) tree_is state.search.search)
+      (three_joining p s.nodes newer older e rest s.unmatched s.root s.parity name
+      (subst (λ t. IsSearch p s.nodes t rest s.unmatched s.root s.parity) tree_is search)
       (fresh_outer p s.nodes
-      (blossom_of name (child_at s.nodes e.parent ∷ child_at s.nodes e.minus ∷ child_at s.nodes e.plus ∷ [])) state.search.nest
+      (blossom_of name (child_at s.nodes e.parent ∷ child_at s.nodes e.minus ∷ child_at s.nodes e.plus ∷ [])) nest
       fresh rounded_live))
 
-  rounded_tight : AreMatchedLinks p s.nodes (e.tree ∷ e.matched ∷ closing ∷ [])
+  pub rounded_tight : AreMatchedLinks p s.nodes (e.tree ∷ e.matched ∷ closing ∷ [])
   rounded_tight =
       links_among p s.nodes (cycle_links (e ∷ []) closing []) ((closing ∷ []) ++ (grown_links s.tree ++ paired_links s.tree))
       (cycle_link_in s.tree (e ∷ []) [] closing (λ f h. only f h) (λ f h. absurd h))
       (links_joined p s.nodes (closing ∷ []) (grown_links s.tree ++ paired_links s.tree) tight
-      (links_joined p s.nodes (grown_links s.tree) (paired_links s.tree) state.search.search.grown
-      (links_left p s.nodes (paired_links s.tree) s.rest state.search.search.matching.links_are)))
+      (links_joined p s.nodes (grown_links s.tree) (paired_links s.tree) search.grown
+      (links_left p s.nodes (paired_links s.tree) rest search.matching.links_are)))
     where
       only : (f : Entry) → IsAmong f (e ∷ []) → IsAmong f s.tree
       only f (inl here) = subst (λ x. IsAmong x s.tree) here within
       only f (inr none) = absurd none
 
-  pub rounded : IsSearchState p (joined_state name (e.parent ∷ e.minus ∷ e.plus ∷ []) (e.tree ∷ e.matched ∷ closing ∷ []) s)
-  rounded =
-      state_joined p s name (child_at s.nodes e.parent) (child_at s.nodes e.minus ∷ child_at s.nodes e.plus ∷ [])
-      (e.tree ∷ e.matched ∷ closing ∷ []) rounded_joining (omega arith) fresh rounded_linked rounded_tight state
-
 pub state_rounded : StateRounded
 state_rounded p s name newer older e closing tree_is closes tight fresh state =
-    rounded p s name newer older e closing tree_is closes tight fresh state
+    state_joined p s name (child_at s.nodes e.parent) (child_at s.nodes e.minus ∷ child_at s.nodes e.plus ∷ [])
+    (e.tree ∷ e.matched ∷ closing ∷ [])
+    (rounded_joining p s name newer older e closing tree_is closes tight fresh s.rest state.search.nest state.search.search)
+    (omega arith) fresh
+    (rounded_linked p s name newer older e closing tree_is closes tight fresh s.rest state.search.nest state.search.search)
+    (rounded_tight p s name newer older e closing tree_is closes tight fresh s.rest state.search.nest state.search.search) state

@@ -1,9 +1,12 @@
 -- Each move of a search leaves less to do.
-use Rattle.std.proofs.Common.{◌≡◌, true, false, [], ◌∷◌, ◌++◌, map, inl, refl, sym, ap, ◌∙◌, subst, arith}
+use Rattle.std.proofs.Common.{ℕ, ◌≡◌, Bool, List, true, false, [], ◌∷◌, ◌++◌, map, inl, refl, sym, ap, ◌∙◌, subst, arith}
 use Rattle.std.proofs.lemmas.Bool.{both_ways, false_from_ne_true}
 use Rattle.fb_graph.specs.Parity.{is_in}
-use Rattle.fb_graph.specs.Dual.{is_empty}
-use Rattle.fb_graph.specs.Moves.{split_nodes}
+use Rattle.fb_graph.specs.Problem.{Problem}
+use Rattle.fb_graph.specs.Dual.{Node, is_empty}
+use Rattle.fb_graph.specs.Moves.{MaySplit, split_nodes}
+use Rattle.fb_graph.specs.Nests.{IsNest}
+use Rattle.fb_graph.specs.Steps.{Roles}
 use Rattle.fb_graph.proofs.Among.{IsAmong, among_right}
 use Rattle.fb_graph.proofs.Places.{IsPlaced, placed}
 use Rattle.fb_graph.proofs.NestParts.{split_is_bare}
@@ -59,37 +62,42 @@ pub rounded_less : RoundedLess
 rounded_less p s name newer older e closing free freed tree_is closes tight fresh state =
     joining_lowers p s.nodes s.tree s.rest s.unmatched s.root s.parity name (child_at s.nodes e.parent)
     (child_at s.nodes e.minus ∷ child_at s.nodes e.plus ∷ []) free freed
-    (rounded_joining p s name newer older e closing tree_is closes tight fresh state) (omega arith) fresh state.search.nest
-    state.search.search
+    (rounded_joining p s name newer older e closing tree_is closes tight fresh s.rest state.search.nest state.search.search)
+    (omega arith) fresh state.search.nest state.search.search
 
-pub opened_less : OpenedLess
-opened_less p s newer older e from way couples free freed tree_is may cycle state =
-    subst (λ nodes. IsLower (left_to_do p (split_nodes e.minus s.nodes) (roles_of s.root (opened_tree newer e older from way)) freed) (left_to_do p nodes (state_roles s) free))
-    (sym at.whole)
-    (subst (λ nodes. IsLower (left_to_do p nodes (roles_of s.root (opened_tree newer e older from way)) freed) (left_to_do p (at.before ++ at.node ∷ at.after) (state_roles s) free))
+-- a blossom split that isn't plus
+pub split_lowers : (p : Problem) (nodes : List Node) (name : ℕ) (children : List ℕ) (roles later : Roles) (free freed : Bool)
+    → IsNest p nodes → MaySplit nodes name → IsSplit nodes (split_nodes name nodes) name children → roles.is_plus name ≡ false
+    → ((n : ℕ) → roles.is_plus n ≡ true → later.is_plus n ≡ true)
+    → IsLower (left_to_do p (split_nodes name nodes) later freed) (left_to_do p nodes roles free)
+split_lowers p nodes name children roles later free freed nest may split not_plus wider =
+    subst (λ ns. IsLower (left_to_do p (split_nodes name nodes) later freed) (left_to_do p ns roles free)) (sym at.whole)
+    (subst (λ ns. IsLower (left_to_do p ns later freed) (left_to_do p (at.before ++ at.node ∷ at.after) roles free))
     (sym at.removed)
-    (opened_lowers p at.before at.after at.node (last_of from way ∷ paired_of from way couples) (state_roles s)
-    (roles_of s.root (opened_tree newer e older from way)) free freed
-    (subst (λ m. IsSplit (at.before ++ at.node ∷ at.after) (at.before ++ at.after) m (last_of from way ∷ paired_of from way couples)) (sym at.named)
-    (subst (λ nodes. IsSplit (at.before ++ at.node ∷ at.after) nodes e.minus (last_of from way ∷ paired_of from way couples)) at.removed
-    (subst (λ nodes. IsSplit nodes (split_nodes e.minus s.nodes) e.minus (last_of from way ∷ paired_of from way couples)) at.whole cycle.split)))
-    not_plus some
-    (λ n plus. still_plus newer older e s.root from n way (ap (λ t. is_in (plus_names s.root t) n) (sym tree_is) ∙ plus))))
+    (opened_lowers p at.before at.after at.node children roles later free freed
+    (subst (λ m. IsSplit (at.before ++ at.node ∷ at.after) (at.before ++ at.after) m children) (sym at.named)
+    (subst (λ ns. IsSplit (at.before ++ at.node ∷ at.after) ns name children) at.removed
+    (subst (λ ns. IsSplit ns (split_nodes name nodes) name children) at.whole split)))
+    (ap roles.is_plus at.named ∙ not_plus) some wider))
   where
-    at : IsPlaced s.nodes e.minus
-    at = placed s.nodes e.minus state.search.nest.dual.names may.live
-
-    minus : is_in (minus_names s.tree) e.minus ≡ true
-    minus = ap (λ t. is_in (minus_names t) e.minus) tree_is ∙ among_minus (newer ++ e ∷ older) e (among_right newer (e ∷ older) e (inl refl))
-
-    not_plus : is_in (plus_names s.root s.tree) at.node.name ≡ false
-    not_plus =
-        ap (is_in (plus_names s.root s.tree)) at.named
-        ∙ false_from_ne_true (is_in (plus_names s.root s.tree) e.minus)
-        (λ plus.
-        both_ways (is_in (minus_names s.tree) e.minus) (exclusive_names s.root s.tree state.search.search.names e.minus plus) minus)
+    at : IsPlaced nodes name
+    at = placed nodes name nest.dual.names may.live
 
     some : is_empty at.node.children ≡ false
     some =
-        (split_is_bare s.nodes e.minus may at.node
+        (split_is_bare nodes name may at.node
         (subst (IsAmong at.node) (sym at.whole) (among_right at.before (at.node ∷ at.after) at.node (inl refl))) at.named).0
+
+pub opened_less : OpenedLess
+opened_less p s newer older e from way couples free freed tree_is may cycle state =
+    split_lowers p s.nodes e.minus (last_of from way ∷ paired_of from way couples) (state_roles s)
+    (roles_of s.root (opened_tree newer e older from way)) free freed state.search.nest may cycle.split
+    (false_from_ne_true (is_in (plus_names s.root s.tree) e.minus)
+    (λ plus.
+    both_ways (is_in (minus_names s.tree) e.minus) (exclusive_names s.root s.tree state.search.search.names e.minus plus) minus))
+    (λ n plus. still_plus newer older e s.root from n way (ap (λ t. is_in (plus_names s.root t) n) (sym tree_is) ∙ plus))
+  where
+    minus : is_in (minus_names s.tree) e.minus ≡ true
+    minus =
+        ap (λ t. is_in (minus_names t) e.minus) tree_is
+        ∙ among_minus (newer ++ e ∷ older) e (among_right newer (e ∷ older) e (inl refl))

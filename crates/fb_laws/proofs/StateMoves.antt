@@ -5,11 +5,12 @@ use Rattle.std.proofs.lemmas.Bool.{and_parts, eq-eqb, both_ways, false≢true}
 use Rattle.std.proofs.lemmas.List.Elements.{All-map}
 use Rattle.fb_graph.specs.Parity.{is_in}
 use Rattle.fb_graph.specs.Problem.{Problem}
+use Rattle.fb_graph.specs.Laws.{Link}
 use Rattle.fb_graph.specs.Dual.{Node, is_outer, taller_node}
 use Rattle.fb_graph.proofs.Sets.{distinct-filter, is_in-filter}
-use Rattle.fb_graph.specs.Moves.{without_top, absorbed_nodes, uncovered_nodes}
-use Rattle.fb_graph.specs.Nests.{child_sets}
-use Rattle.fb_laws.specs.PartStates.{IsRing, AreCycles, AreLiveNames, IsSearchState, SearchState, all_cycle_links}
+use Rattle.fb_graph.specs.Moves.{MayAbsorb, MayUncover, without_top, absorbed_nodes, uncovered_nodes}
+use Rattle.fb_graph.specs.Nests.{IsNest, child_sets}
+use Rattle.fb_laws.specs.PartStates.{IsRing, AreCycles, AreLiveNames, all_cycle_links}
 use Rattle.fb_graph.specs.Alike.{AreAlike}
 use Rattle.fb_graph.specs.Singles.{Single, node_of, nodes_of}
 use Rattle.fb_laws.specs.StateMoves.{PartBegins, SearchFrom, StateFree, StateStepped, StateAbsorbed, StateUncovered, StateAttached, StateEnded, StateMet, StateReleased, state_roles}
@@ -79,54 +80,60 @@ state_stepped p s k limits even may state =
     }
 
 -- the node of an outer name changed in its layers, with the same loads
-module _ (p : Problem) (s : SearchState) (name : ℕ) (g : Node → Node) (names : (n : Node) → (g n).name ≡ n.name)
-    (children : (n : Node) → (g n).children ≡ n.children) (outer : is_outer s.nodes name ≡ true)
-    (alike : AreAlike s.nodes (map (change name g) s.nodes)) (state : IsSearchState p s) where
+module _ (nodes : List Node) (name : ℕ) (g : Node → Node) (names : (n : Node) → (g n).name ≡ n.name) where
   same_name : (n : Node) → (change name g n).name ≡ n.name
   same_name n = by_name (λ m. m.name ≡ n.name) name g n (λ e. names n) (λ other. refl)
 
-  changed_cycles : AreCycles p (map (change name g) s.nodes) s.cycles
-  changed_cycles =
-      cycles_mapped p (change name g) s.nodes s.cycles same_name
+  pub changed_cycles : (p : Problem) (cycles : ℕ → List Link) → ((n : Node) → (g n).children ≡ n.children)
+      → is_outer nodes name ≡ true → AreAlike nodes (map (change name g) nodes) → AreCycles p nodes cycles
+      → AreCycles p (map (change name g) nodes) cycles
+  changed_cycles p cycles children outer alike are =
+      cycles_mapped p (change name g) nodes cycles same_name
       (λ n. by_name (λ m. m.children ≡ n.children) name g n (λ e. children n) (λ other. refl))
       (λ c inner.
-      top_changed name g names c (λ same. both_ways (is_outer s.nodes c) inner (ap (is_outer s.nodes) same ∙ outer)) s.nodes)
-      (links_kept p s.nodes (map (change name g) s.nodes) (all_cycle_links s.nodes s.cycles) alike.defects alike.loads
-      state.cycles.links)
-      state.cycles
+      top_changed name g names c (λ same. both_ways (is_outer nodes c) inner (ap (is_outer nodes) same ∙ outer)) nodes)
+      (links_kept p nodes (map (change name g) nodes) (all_cycle_links nodes cycles) alike.defects alike.loads are.links)
+      are
 
-  changed_names : AreLiveNames (map (change name g) s.nodes) s.unmatched
-  changed_names =
-      names_kept s.nodes (map (change name g) s.nodes) s.unmatched
-      (λ n live. mapped_live (change name g) same_name s.nodes n ∙ live) state.names
+  pub changed_names : (unmatched : List ℕ) → AreLiveNames nodes unmatched → AreLiveNames (map (change name g) nodes) unmatched
+  changed_names unmatched are =
+      names_kept nodes (map (change name g) nodes) unmatched
+      (λ n live. mapped_live (change name g) same_name nodes n ∙ live) are
+
+-- the node under which the vertex to be absorbed meets its edge is outer
+pub absorbing_outer : (p : Problem) (nodes : List Node) (name k u v : ℕ) → MayAbsorb p nodes name k u v → is_outer nodes name ≡ true
+absorbing_outer p nodes name k u v may =
+    let over = cover_among nodes u name may.covered in
+    ap (is_outer nodes) (sym over.named) ∙ over.outer
+
+pub absorbed_alike : (p : Problem) (nodes : List Node) (name k u v : ℕ) → IsNest p nodes → MayAbsorb p nodes name k u v
+    → AreAlike nodes (absorbed_nodes name v nodes)
+absorbed_alike p nodes name k u v nest may = (taller_alike nodes name v (no_leaf p nodes v nest.dual may.uncovered)).0
+
+pub uncovered_alike : (p : Problem) (nodes : List Node) (name : ℕ) → IsNest p nodes → MayUncover nodes name
+    → AreAlike nodes (uncovered_nodes name nodes)
+uncovered_alike p nodes name nest may =
+    let (v, given) = uncovered_back p nodes name may nest in
+    subst (λ ns. AreAlike ns (uncovered_nodes name nodes)) given.back
+    (taller_alike (uncovered_nodes name nodes) name v given.no_defect).1
 
 pub state_absorbed : StateAbsorbed
 state_absorbed p s name k u v even may state = record {
   search = nested_absorbed p s.nodes s.tree s.rest s.unmatched s.root s.parity name k u v even may state.search;
-  cycles = changed_cycles p s name (taller_node v) (λ n. refl) (λ n. refl) outer alike state;
-  names = changed_names p s name (taller_node v) (λ n. refl) (λ n. refl) outer alike state;
+  cycles =
+      changed_cycles s.nodes name (taller_node v) (λ n. refl) p s.cycles (λ n. refl)
+      (absorbing_outer p s.nodes name k u v may) (absorbed_alike p s.nodes name k u v state.search.nest may) state.cycles;
+  names = changed_names s.nodes name (taller_node v) (λ n. refl) s.unmatched state.names;
 }
-  where
-    outer : is_outer s.nodes name ≡ true
-    outer =
-        let over = cover_among s.nodes u name may.covered in
-        ap (is_outer s.nodes) (sym over.named) ∙ over.outer
-
-    alike : AreAlike s.nodes (absorbed_nodes name v s.nodes)
-    alike = (taller_alike s.nodes name v (no_leaf p s.nodes v state.search.nest.dual may.uncovered)).0
 
 pub state_uncovered : StateUncovered
 state_uncovered p s name may state = record {
   search = nested_uncovered p s.nodes s.tree s.rest s.unmatched s.root s.parity name may state.search;
-  cycles = changed_cycles p s name without_top (λ n. refl) (λ n. refl) may.outer alike state;
-  names = changed_names p s name without_top (λ n. refl) (λ n. refl) may.outer alike state;
+  cycles =
+      changed_cycles s.nodes name without_top (λ n. refl) p s.cycles (λ n. refl) may.outer
+      (uncovered_alike p s.nodes name state.search.nest may) state.cycles;
+  names = changed_names s.nodes name without_top (λ n. refl) s.unmatched state.names;
 }
-  where
-    alike : AreAlike s.nodes (uncovered_nodes name s.nodes)
-    alike =
-        let (v, given) = uncovered_back p s.nodes name may state.search.nest in
-        subst (λ ns. AreAlike ns (uncovered_nodes name s.nodes)) given.back
-        (taller_alike (uncovered_nodes name s.nodes) name v given.no_defect).1
 
 pub state_attached : StateAttached
 state_attached p s e rest even may state = record {
@@ -146,7 +153,7 @@ state_attached p s e rest even may state = record {
   names = state.names;
 }
 
-filter-le : (test : ℕ → Bool) (xs : List ℕ) → length (filter test xs) ≤ length xs
+pub filter-le : (test : ℕ → Bool) (xs : List ℕ) → length (filter test xs) ≤ length xs
 filter-le test [] = omega arith
 filter-le test (x ∷ xs) = step (test x) (filter-le test xs)
   where
@@ -156,7 +163,7 @@ filter-le test (x ∷ xs) = step (test x) (filter-le test xs)
     step false h = omega (arith, h)
 
 -- a name taken out of a list that has it
-fewer_without : (name : ℕ) (xs : List ℕ) → is_in xs name ≡ true → length (names_without name xs) < length xs
+pub fewer_without : (name : ℕ) (xs : List ℕ) → is_in xs name ≡ true → length (names_without name xs) < length xs
 fewer_without name [] within = absurd (false≢true within)
 fewer_without name (x ∷ xs) within = step (x == name) refl (fewer_without name xs)
   where
@@ -174,7 +181,7 @@ pub kept_without : (name : ℕ) (xs : List ℕ) (n : ℕ) → is_in (names_witho
 kept_without name xs n within =
     (and_parts (is_in xs n) (not (n == name)) (sym (is_in-filter (λ m. not (m == name)) xs n) ∙ within)).0
 
-without_names : (nodes : List Node) (name : ℕ) (names : List ℕ) → AreLiveNames nodes names
+pub without_names : (nodes : List Node) (name : ℕ) (names : List ℕ) → AreLiveNames nodes names
     → AreLiveNames nodes (names_without name names)
 without_names nodes name names are = record {
   live = λ n within. are.live n (kept_without name names n within);

@@ -21,7 +21,7 @@ use Rattle.fb_graph.proofs.SplitNests.{at, insertion, nest_split, same_leaves}
 use Rattle.fb_laws.specs.Fusion.{IsLinkOf}
 use Rattle.fb_laws.specs.NestedSearches.{IsNestedSearch}
 use Rattle.fb_laws.specs.OpenedCycles.{Couple, IsOpenedCycle, Pass, AreCoupled, ArePassed, grown_on, last_of, matched_beside, matched_on, opened_tree, paired_of}
-use Rattle.fb_laws.specs.PartStates.{AreChained, IsRing, AreCycles, IsSearchState, SearchState, all_cycle_links, links_at}
+use Rattle.fb_laws.specs.PartStates.{AreChained, IsRing, AreCycles, AreLiveNames, IsSearchState, SearchState, all_cycle_links, links_at}
 use Rattle.fb_laws.specs.Paths.{Joins}
 use Rattle.fb_laws.specs.SearchOpenings.{IsSplit, IsOpenedTree}
 use Rattle.fb_laws.specs.StateOpenings.{AreLinkedRound, CycleFreed, IsFreed, StateOpened, StateOpens}
@@ -181,6 +181,18 @@ cycle_freed p nodes cycles name may nest are =
           are);
     })
 
+-- names that aren't the blossom's stay
+pub names_split : (nodes : List Node) (name : ℕ) (names : List ℕ) → is_in names name ≡ false → AreLiveNames nodes names
+    → AreLiveNames (split_nodes name nodes) names
+names_split nodes name names out are = record {
+  live = λ n within.
+      let (m, a, named) = live_among nodes n (are.live n within) in
+      among_live (split_nodes name nodes) m n
+      (split_among name nodes m a
+      (λ same. both_ways (is_in names n) (ap (is_in names) (sym named ∙ same) ∙ out) within)) named;
+  distinct = are.distinct;
+}
+
 pub state_opened : StateOpened
 state_opened p s newer older e from way couples tree_is may cycle state = record {
   search =
@@ -188,13 +200,7 @@ state_opened p s newer older e from way couples tree_is may cycle state = record
       (matched_on way ++ matched_beside couples) s.rest (matched_beside couples ++ s.rest) s.unmatched s.root s.parity may opened
       search;
   cycles = cycles_split p s.nodes s.cycles e.minus may state.search.nest state.cycles;
-  names = record {
-    live = λ n within.
-        let (m, a, named) = live_among s.nodes n (state.names.live n within) in
-        among_live (split_nodes e.minus s.nodes) m n
-        (split_among e.minus s.nodes m a (λ same. both_ways (is_in s.unmatched n) (blossom_matched n (sym named ∙ same)) within)) named;
-    distinct = state.names.distinct;
-  };
+  names = names_split s.nodes e.minus s.unmatched (opened.closed e.minus (is_in-head e.minus (last_of from way ∷ paired_of from way couples))) state.names;
 }
   where
     search : IsNestedSearch p s.nodes (newer ++ e ∷ older) s.rest s.unmatched s.root s.parity
@@ -205,12 +211,6 @@ state_opened p s newer older e from way couples tree_is may cycle state = record
     opened =
         cycle_opened p s.nodes (split_nodes e.minus s.nodes) newer older e s.rest s.unmatched s.root s.parity from way couples cycle
         (nest_split p s.nodes e.minus may state.search.nest).dual search.search
-
-    blossom_matched : (n : ℕ) → n ≡ e.minus → is_in s.unmatched n ≡ false
-    blossom_matched n same =
-        opened.closed n
-        (subst (λ m. is_in (e.minus ∷ last_of from way ∷ paired_of from way couples) m ≡ true) (sym same)
-        (is_in-head e.minus (last_of from way ∷ paired_of from way couples)))
 
 module _ (p : Problem) (s : SearchState) (e : Entry) (within : IsAmong e s.tree) (may : MaySplit s.nodes e.minus) (state : IsSearchState p s) (b : Node) (there : IsAmong b s.nodes) (named : b.name ≡ e.minus) where
   has_split : (children : List ℕ) → ((n : ℕ) → is_in children n ≡ is_in b.children n)

@@ -23,7 +23,7 @@ use Rattle.fb_laws.proofs.SearchStates.{search_permuted}
 use Rattle.fb_laws.proofs.StateBlossoms.{child_in_tree, unmatched_is_root}
 use Rattle.fb_laws.proofs.StateFusions.{links_same, rings_same}
 
-cycles_agree : (p : Problem) (nodes : List Node) (cycles other : ℕ → List Link) → AgreeAt nodes cycles other
+pub cycles_agree : (p : Problem) (nodes : List Node) (cycles other : ℕ → List Link) → AgreeAt nodes cycles other
     → AreCycles p nodes cycles → AreCycles p nodes other
 cycles_agree p nodes cycles other agree are = record {
   rings = rings_same nodes nodes cycles other same are.rings;

@@ -10,19 +10,20 @@ use Rattle.fb_graph.specs.Problem.{Problem}
 use Rattle.fb_graph.specs.Laws.{Link}
 use Rattle.fb_graph.specs.Dual.{Node, cover_of, is_live, is_outer, leaves, top_at}
 use Rattle.fb_graph.specs.Moves.{MaySplit, split_nodes}
-use Rattle.fb_graph.specs.Nests.{AreMany}
+use Rattle.fb_graph.specs.Nests.{AreMany, IsNest}
 use Rattle.fb_graph.proofs.Among.{IsAmong, All_among, live_among, top_among}
 use Rattle.fb_graph.proofs.Sets.{is_in-All}
 use Rattle.fb_graph.proofs.NestParts.{joins_many, split_is_bare}
 use Rattle.fb_laws.specs.OpenedCycles.{IsOpenedCycle, last_of, paired_of}
 use Rattle.fb_laws.specs.OpenedLinks.{round_from}
-use Rattle.fb_laws.specs.PartStates.{SearchState, IsSearchState}
+use Rattle.fb_laws.specs.PartStates.{AreCycles, SearchState}
 use Rattle.fb_laws.specs.RingWays.{Round, IsRoundFrom, IsWayRound, couples_after, way_to}
 use Rattle.fb_laws.specs.SearchOpenings.{IsSplit}
 use Rattle.fb_laws.specs.StateOpenings.{AreLinkedRound, IsFreed}
 use Rattle.fb_laws.specs.StateRings.{ChildAtEnd, CycleAlong, MayOpenAlong, StateOpenedAlong, round_of}
 use Rattle.fb_laws.specs.Trees.{Connects, Entry}
 use Rattle.fb_laws.specs.Opening.{EndsAtDefects}
+use Rattle.fb_laws.specs.UnmatchedNames.{AreOuterNames}
 use Rattle.fb_laws.proofs.CycleMoves.{child_inner}
 use Rattle.fb_laws.proofs.OpenedBlossoms.{distinct_permuted, in_permuted, same_permuted}
 use Rattle.fb_laws.proofs.OpenedParts.{matched_some, round_among}
@@ -91,8 +92,8 @@ drop_at (x ∷ xs) (suc k) d less =
     drop_at xs k d (omega (arith, less)) ∙ ap (λ i. get_or xs k d ∷ drop i (x ∷ xs)) (sym next)
 
 module _ (p : Problem) (s : SearchState) (newer older : List Entry) (e : Entry) (first : ℕ) (names : List ℕ)
-    (place steps : ℕ) (state : IsSearchState p s) (may : MayOpenAlong s newer older e (first ∷ names) place steps)
-    (b : Node) (among : IsAmong b s.nodes) (named : b.name ≡ e.minus) where
+    (place steps : ℕ) (nest : IsNest p s.nodes) (cycles : AreCycles p s.nodes s.cycles) (outer : AreOuterNames s.nodes s.unmatched)
+    (may : MayOpenAlong s newer older e (first ∷ names) place steps) (b : Node) (among : IsAmong b s.nodes) (named : b.name ≡ e.minus) where
   abbrev Others : List Node
   Others = split_nodes e.minus s.nodes
 
@@ -108,11 +109,11 @@ module _ (p : Problem) (s : SearchState) (newer older : List Entry) (e : Entry) 
   freed : IsFreed p s.nodes b.children e.minus (s.cycles e.minus)
   freed =
       All_among (λ n. n.name ≡ e.minus → IsFreed p s.nodes n.children e.minus (s.cycles e.minus)) s.nodes
-      (cycle_freed p s.nodes s.cycles e.minus may.may_split state.search.nest state.cycles) b among named
+      (cycle_freed p s.nodes s.cycles e.minus may.may_split nest cycles) b among named
 
   many : AreMany b.children
   many =
-      joins_many p s.nodes state.search.nest b among (split_is_bare s.nodes e.minus may.may_split b among named).0
+      joins_many p s.nodes nest b among (split_is_bare s.nodes e.minus may.may_split b among named).0
 
   begun : IsRoundFrom Others From Ring × IsPermutation (first ∷ names) (From ∷ Ring.others)
   begun =
@@ -153,7 +154,7 @@ module _ (p : Problem) (s : SearchState) (newer older : List Entry) (e : Entry) 
         IsSplit s.nodes (split_nodes x s.nodes) x
         (last_of From (way_to steps Ring) ∷ paired_of From (way_to steps Ring) (couples_after steps Ring)))
         named
-        (is_split p s.nodes b _ among (subst (MaySplit s.nodes) (sym named) may.may_split) state.search.nest
+        (is_split p s.nodes b _ among (subst (MaySplit s.nodes) (sym named) may.may_split) nest
         (same_permuted b.children _ moved));
     distinct = distinct_permuted b.children _ moved many.distinct;
     above = may.above;
@@ -168,14 +169,22 @@ module _ (p : Problem) (s : SearchState) (newer older : List Entry) (e : Entry) 
         (λ opens.
         both_ways (is_outer s.nodes n)
         (child_inner s.nodes b n among (in_permuted _ b.children (IsPermutation-sym b.children _ moved) n within))
-        (state.search.outer n opens));
+        (outer n opens));
   }
 
-pub cycle_along : CycleAlong
-cycle_along p s newer older e [] place steps state may = absurd (omega (arith, may.place_below))
-cycle_along p s newer older e (first ∷ names) place steps state may =
+pub way_along : (p : Problem) (s : SearchState) (newer older : List Entry) (e : Entry) (children : List ℕ) (place steps : ℕ)
+    → IsNest p s.nodes → AreCycles p s.nodes s.cycles → AreOuterNames s.nodes s.unmatched
+    → MayOpenAlong s newer older e children place steps
+    → IsOpenedCycle p s.nodes (split_nodes e.minus s.nodes) e (get_or children place 0)
+    (way_to steps (round_of s e children place)) (couples_after steps (round_of s e children place)) s.unmatched
+way_along p s newer older e [] place steps nest cycles outer may = absurd (omega (arith, may.place_below))
+way_along p s newer older e (first ∷ names) place steps nest cycles outer may =
     let (b, among, named) = live_among s.nodes e.minus may.may_split.live in
-    opened_cycle p s newer older e first names place steps state may b among named
+    opened_cycle p s newer older e first names place steps nest cycles outer may b among named
+
+pub cycle_along : CycleAlong
+cycle_along p s newer older e children place steps state may =
+    way_along p s newer older e children place steps state.search.nest state.cycles state.search.outer may
 
 pub state_opened_along : StateOpenedAlong
 state_opened_along p s newer older e children place steps state may =

@@ -150,6 +150,17 @@ ForestEnded = (p : Problem) (nodes : List Node) (t : TreeOf Link) (others : List
     ((grown_links (path_to t.branches name) ++ out ∷ paired_links (branches_beside t.branches name)) ++ rest)
     (names_without t.root unmatched) r
 
+-- So is one that meets a node matched to the boundary, whose link there is taken away.
+abbrev pub ForestReleased : Type 0
+ForestReleased = (p : Problem) (nodes : List Node) (t : TreeOf Link) (others : List (TreeOf Link)) (old : Link)
+    (rest : List Link) (unmatched : List ℕ) (r name other : ℕ) (out : Link) (b : ℕ)
+    → IsForest p nodes (t ∷ others) (old ∷ rest) unmatched r → is_in (plus_names t.root t.branches) name ≡ true
+    → AreMatchedLinks p nodes (out ∷ []) → Connects nodes out name other → LeavesNode nodes old other b
+    → p.is_real b ≡ false
+    → IsForest p nodes others
+    ((grown_links (path_to t.branches name) ++ out ∷ paired_links (branches_beside t.branches name)) ++ rest)
+    (names_without t.root unmatched) r
+
 -- With no tree left, the part is as it is between searches.
 abbrev pub ForestDone : Type 0
 ForestDone = (p : Problem) (nodes : List Node) (rest : List Link) (unmatched : List ℕ) (r : ℕ)

@@ -2,6 +2,11 @@ pub mod Blossoms
 pub mod Bounds
 pub mod Differences
 pub mod ExchangedDefects
+pub mod ForestBlossoms
+pub mod ForestMeasures
+pub mod ForestMoves
+pub mod ForestOpenings
+pub mod ForestStates
 pub mod Forests
 pub mod Forming
 pub mod FusedStates

@@ -1,6 +1,6 @@
 //! Several trees that grow at once, from all unmatched nodes (Edmonds 1965).
 
-ghost use Rattle.fb_laws.specs.Forests.{ForestAttached, ForestBegins, ForestDone, ForestEnded, ForestFirst, ForestLevel, ForestMet, ForestRoles, ForestStepped, ForestTree, MatchingRerooted};
+ghost use Rattle.fb_laws.specs.Forests.{ForestAttached, ForestBegins, ForestDone, ForestEnded, ForestFirst, ForestLevel, ForestMet, ForestReleased, ForestRoles, ForestStepped, ForestTree, MatchingRerooted};
 
 /// A tree begins at every unmatched node. The order of the trees doesn't matter.
 pub fn forest_begins()
@@ -27,10 +27,11 @@ pub fn forest_attached()
 {}
 
 /// Any plus node of a tree may be its root. So two trees that meet are matched and dissolved, as is one that meets the
-/// boundary; the others stay. With no tree left nothing is unmatched.
+/// boundary or a node matched to it; the others stay. With no tree left nothing is unmatched.
 pub fn forest_ended()
     ensures rerooted { MatchingRerooted }
     ensures met { ForestMet }
     ensures boundary { ForestEnded }
+    ensures released { ForestReleased }
     ensures done { ForestDone }
 {}

@@ -6,6 +6,7 @@
 pub mod blossoms;
 pub mod bridges;
 pub mod cycles;
+pub mod forest_states;
 pub mod forests;
 pub mod forming;
 pub mod held;
@@ -32,6 +33,11 @@ pub mod unmatched;
 pub use blossoms::{blossom_formed, blossom_opened, odd_cycle};
 pub use bridges::{blossom_named, moves_lower, uncovered_back};
 pub use cycles::{cycle_closed, cycle_opened};
+pub use forest_states::{
+    forest_state_attached, forest_state_begins, forest_state_ended, forest_state_free,
+    forest_state_joined, forest_state_layers, forest_state_links, forest_state_lowers,
+    forest_state_opened, forest_state_reordered,
+};
 pub use forests::{forest_attached, forest_begins, forest_ended, forest_stepped, forest_trees};
 pub use forming::matching_formed;
 pub use held::held_in_sets;
