@@ -10,7 +10,7 @@ use Rattle.fb_graph.specs.Problem.{Problem}
 use Rattle.fb_graph.specs.Certificate.{AreDistinct}
 use Rattle.fb_graph.specs.Dual.{is_live}
 use Rattle.fb_graph.specs.Laws.{IsPart as IsPartOfProblem}
-use Rattle.fb_graph.specs.Limits.{IsShot, IsWithinLimits, no_shot}
+use Rattle.fb_graph.specs.Limits.{IsWithinLimits, no_shot}
 use Rattle.fb_graph.specs.Singles.{Single, vertices_of}
 use Rattle.fb_graph.proofs.Members.{is_in-append}
 use Rattle.fb_graph.proofs.Sets.{distinct-filter, distinct_from_rising, is_in-filter}

@@ -18,6 +18,7 @@ pub mod ListedHalves
 pub mod Listings
 pub mod Lookups
 pub mod MergedHalves
+pub mod MergedOdd
 pub mod Reached
 pub mod RenamedMatches
 pub mod SeamLists

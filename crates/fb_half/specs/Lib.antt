@@ -1,6 +1,7 @@
 pub mod Agreements
 pub mod Beginnings
 pub mod InternalBeginnings
+pub mod InternalDifferences
 pub mod InternalMerging
 pub mod InternalSeams
 pub mod InternalStandings

@@ -4,6 +4,7 @@
 #![tactic(auto)]
 
 pub mod both;
+pub mod differences;
 pub mod half;
 pub mod laws;
 pub mod matches;

@@ -27,7 +27,6 @@ ghost use Rattle.fb_half.specs.Seams.{AreListed, names_under};
 ghost use Rattle.fb_half.specs.Translations.{link_by};
 ghost use Rattle.fb_half.specs.Values.{IsScopeOf, part_of};
 
-use crate::both::both;
 use crate::matches::{Match, Standing};
 use crate::matching::Matching;
 use crate::parts::Parts;
@@ -122,51 +121,37 @@ pub(crate) fn merged_parts<'a>(
     ensures slot { IfOk result (λ m. m.parts.slot ≡ left.entry.slot) }
     ensures node { IfOk result (λ m. m.parts.node ≡ scope.now.node) }
 {
-    let (tables, (regions, others)) = both(
-        merged_tables(
-            alloc,
-            left.links,
-            right.links,
-            left.blossoms,
-            right.blossoms,
-        ),
-        (
-            (left.regions, right.regions),
-            (
-                left.matching,
-                right.matching,
-                left.seams,
-                right.seams,
-                left.defects,
-                right.defects,
-            ),
-        ),
+    let tables = merged_tables(
+        alloc,
+        left.links,
+        right.links,
+        left.blossoms,
+        right.blossoms,
     )?;
-    let ((regions, room), (tables, others)) = both(
-        Regions::merged_with_spare(alloc, regions.0, regions.1, &tables.names, scope),
-        (tables, others),
+    let (regions, room) = Regions::merged_with_spare(
+        alloc,
+        left.regions,
+        right.regions,
+        &tables.names,
+        scope,
     )?;
-    let (mine, theirs, my_seams, their_seams, defects, other_defects) = others;
-    let (seams, (tables, regions, room, mine, theirs)) = both(
-        Seams::merged(alloc, my_seams, their_seams, &tables.names),
-        (tables, regions, room, mine, theirs),
-    )?;
+    let seams = Seams::merged(alloc, left.seams, right.seams, &tables.names)?;
     Ok(MergedParts {
         parts: Parts {
             regions,
             links: tables.links,
             blossoms: tables.blossoms,
-            matching: mine,
+            matching: left.matching,
             seams,
-            defects,
+            defects: left.defects,
             job: left.job,
             slot: left.slot,
             node: scope.node,
         },
         link_names: tables.link_names,
         names: tables.names,
-        others: theirs,
-        other_defects,
+        others: right.matching,
+        other_defects: right.defects,
         room,
         emptied: tables.emptied,
     })

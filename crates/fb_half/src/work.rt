@@ -6,7 +6,6 @@ ghost use Rattle.fb_half.specs.Matchings.{match_links};
 ghost use Rattle.fb_half.specs.Parts.{IsPart};
 ghost use Rattle.fb_half.specs.Values.{HasScope, IsScopeOf, part_of};
 
-use crate::both::both;
 use crate::half::Half;
 use crate::matching::Matching;
 use crate::merging::{MergedParts, complete, merged_parts};
@@ -177,10 +176,10 @@ impl<'a> Work<'a> {
         ensures { IfOk result (λ w. IsBegun job.now slot node w) }
     {
         job.keeps();
-        let (own, spare) = both(defects_at(alloc, job, slot, node), spare)?;
+        let own = defects_at(alloc, job, slot, node)?;
         let NodeDefects { given, shifted } = own;
         let mut parts = empty_parts(alloc, job, slot, node, spare)?;
-        let parts = start(alloc, &mut parts, &shifted).and(Ok(parts))?;
+        start(alloc, &mut parts, &shifted)?;
         state_begins();
         Ok(Work {
             parts: Parts {
@@ -235,14 +234,14 @@ impl<'a> Work<'a> {
         let right = right.into_parts();
         scope.limits();
         let mut merged = merged_parts(alloc, &scope, left, right)?;
-        let whole = complete(alloc, &mut merged).and(Ok(merged))?;
+        complete(alloc, &mut merged)?;
         let MergedParts {
             parts,
             others,
             room,
             emptied,
             ..
-        } = whole;
+        } = merged;
         let spare = Spare::beside(room, emptied, others);
         Ok((Work { parts }, spare))
     }

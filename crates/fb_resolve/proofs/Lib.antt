@@ -5,3 +5,4 @@ pub mod Openings
 pub mod Reached
 pub mod Rings
 pub mod Roots
+pub mod SortedRuns

@@ -2,6 +2,7 @@
 
 #![tactic(auto)]
 
+mod exchange;
 pub mod laws;
 mod marks;
 mod opening;

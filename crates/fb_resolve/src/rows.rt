@@ -1,6 +1,7 @@
 //! The row of a solved root.
 
 ghost use Rattle.std.specs.Prelude.{◌≡◌, ℕ, Bool, ◌≤◌, ◌^◌, ◌++◌, true, map, flat_map, All, IfOk, OnOk};
+ghost use Rattle.std.specs.List.Sorted.{IsStrictlyIncreasing};
 ghost use Rattle.fb_graph.specs.Answers.{IsRight};
 ghost use Rattle.fb_graph.specs.Certificate.{total_value};
 ghost use Rattle.fb_graph.specs.Dual.{all_cuts};
@@ -10,8 +11,9 @@ ghost use Rattle.fb_links.specs.Table.{is_live, walk_at};
 ghost use Rattle.fb_plan.specs.Plans.{root_of};
 ghost use Rattle.fb_half.specs.Parts.{graph_in, shot_of};
 
+use crate::exchange::odd_of_both;
 use crate::opening::opened;
-use fb_graph::{Cut, NoMemory, Row, Scope, odd_ones, printed_cuts};
+use fb_graph::{Cut, NoMemory, NumberList, Row, Scope, printed_cuts};
 use fb_half::Half;
 use fb_links::{LinkId, Links, NodeId};
 use fb_regions::Regions;
@@ -31,12 +33,12 @@ pub fn resolve(alloc: Global, half: &Half) -> Result<Row, NoMemory>
     let names = names_of(alloc, half.regions())?;
     let ids = opened(alloc, half.blossoms(), half.links(), &names, half.matches())?;
     let walked = edges_of(alloc, half.links(), &ids)?;
-    let (edges, base) = with_negatives(half, walked)?;
+    let (edges, base) = with_negatives(alloc, half, walked)?;
     let cuts = half.regions().cuts(alloc)?;
     let base = i128::from(base);
     let total = total_of(&cuts);
     Ok(Row::Best {
-        edges: odd_ones(edges),
+        edges: NumberList::from_vec(edges),
         base,
         weight: base + i128::from(total),
         cuts: printed_cuts(cuts),
@@ -77,11 +79,13 @@ fn push_walk(links: &Links, edges: &mut Vec<u32>, id: LinkId) -> Result<(), NoMe
     Ok(())
 }
 
-/// The edges together with those that weigh less than 0 for the part's shot. An edge that lies in exactly one of the two
-/// occurs an odd number of times. With them, what all edges below 0 weigh together.
-fn with_negatives(half: &Half, mut edges: Vec<u32>) -> Result<(Vec<u32>, i64), NoMemory>
+/// The edges that are an odd number of times among the walked ones or weigh less than 0 for the part's shot, but not both,
+/// rising. With them, what all edges below 0 weigh together. The graph's edges below 0 are merged, and only the walked ones
+/// and those whose sign the shot turns are sorted.
+fn with_negatives(alloc: Global, half: &Half, walked: Vec<u32>) -> Result<(Vec<u32>, i64), NoMemory>
+    ensures rising { IfOk result (λ r. IsStrictlyIncreasing r.0.items) }
     ensures parity { IfOk result (λ r. (test : ℕ → Bool) → is_odd_count test r.0.items
-        ≡ is_odd_count test (edges.items ++ (graph_in half.now).negatives)) }
+        ≡ is_odd_count test (walked.items ++ (graph_in half.now).negatives)) }
     ensures base { IfOk result (λ r. r.1 ≡ base_of half.now.job.graph (shot_of half.now)) }
 {
     half.keeps();
@@ -89,7 +93,9 @@ fn with_negatives(half: &Half, mut edges: Vec<u32>) -> Result<(Vec<u32>, i64), N
     job.keeps();
     let slot = half.slot();
     let shot = &job.shots()[slot as usize];
-    shot.add_negatives(job.graph(), &mut edges)?;
+    let mut negatives = Vec::new(alloc);
+    shot.add_negatives(job.graph(), &mut negatives)?;
+    let edges = odd_of_both(alloc, walked, &negatives)?;
     Ok((edges, shot.base(job.graph())))
 }
 

@@ -1,11 +1,11 @@
 use Rattle.std.proofs.Common.{◌<◌, ◌∙◌, length, All, ap, filter, sym, subst}
 use Rattle.std.specs.List.Sorted.{IsStrictlyIncreasing}
-use Rattle.fb_graph.specs.Limits.{IsGraph, no_shot, odd_ends}
+use Rattle.std.proofs.lemmas.List.Kept.{IsStrictlyIncreasing-filter}
+use Rattle.fb_graph.specs.Limits.{IsGraph, odd_ends}
 use Rattle.fb_plan.specs.Plans.{node_count}
 use Rattle.fb_half.specs.Merged.{is_owned_by}
-use Rattle.fb_half.specs.Parts.{shot_of}
 use Rattle.fb_half.proofs.BegunParts.{shot_at, shot_below, shot_read}
-use Rattle.fb_half.proofs.ShiftedLists.{ends_below, shifted_kept, turned_below, turned_rises}
+use Rattle.fb_half.proofs.ShiftedLists.{ends_below, shifted_kept, turned_below}
 use Rattle.fb_half.proofs.merging.seam_defects.Goals as goal
 
 pub seam_vertices-requires-clause-node : goal.seam_vertices-requires-clause-node
@@ -42,6 +42,23 @@ seam_vertices-requires-3-clause-below c =
     (subst (λ s. All (λ v. v < c.args.job.now.graph.vertices) s.turned)
     (sym (shot_read c.args.job.now c.args.slot _ _ c.shots.ensures c.requires.slot c.index-shots-slot.is))
     (turned_below c.args.job.now.graph _ (shot_at c.args.job.now c.args.slot c.keeps.ensures c.requires.slot)))))
+
+pub odd_among-requires-clause-first : goal.odd_among-requires-clause-first
+odd_among-requires-clause-first c =
+    subst IsStrictlyIncreasing (sym (c.deref.ensures.value ∙ c.in_ok-given.ensures))
+    (IsStrictlyIncreasing-filter (is_owned_by c.plan-plan.result.now c.args.node) c.as_slice.result.now
+    (subst IsStrictlyIncreasing (sym c.as_slice.ensures.defects) c.as_slice.ensures.rising))
+
+pub odd_among-requires-clause-second : goal.odd_among-requires-clause-second
+odd_among-requires-clause-second c =
+    subst IsStrictlyIncreasing (sym (c.deref-2.ensures.value ∙ c.in_ok-by_graph.ensures))
+    (IsStrictlyIncreasing-filter (is_owned_by c.plan-plan.result.now c.args.node) c.turned.result.now c.turned.ensures.rising)
+
+pub odd_among-requires-clause-third : goal.odd_among-requires-clause-third
+odd_among-requires-clause-third c =
+    subst IsStrictlyIncreasing (sym (c.deref-3.ensures.value ∙ c.in_ok-by_shot.ensures))
+    (IsStrictlyIncreasing-filter (is_owned_by c.plan-plan.result.now c.args.node) c.turned-2.result.now
+    (subst IsStrictlyIncreasing (sym c.turned-2.ensures.vertices) c.turned-2.ensures.rising))
 
 pub returns-clause-shifted : goal.returns-clause-shifted
 returns-clause-shifted c =

@@ -1,4 +1,6 @@
 use Rattle.std.proofs.Common.{◌<◌, ◌∙◌, All, ap, filter, sym, subst}
+use Rattle.std.specs.List.Sorted.{IsStrictlyIncreasing}
+use Rattle.std.proofs.lemmas.List.Kept.{IsStrictlyIncreasing-filter}
 use Rattle.fb_plan.specs.Scopes.{scope_problem}
 use Rattle.fb_half.proofs.BegunParts.{shot_below}
 use Rattle.fb_half.proofs.ShiftedLists.{ends_below, shifted_kept, turned_below}
@@ -18,6 +20,23 @@ pub own_vertices-requires-3-clause-below : goal.own_vertices-requires-3-clause-b
 own_vertices-requires-3-clause-below c =
     subst (All (λ v. v < c.args.scope.now.graph.now.vertices)) (sym c.turned-2.ensures.vertices)
     (turned_below c.args.scope.now.graph.now c.args.scope.now.shot.now c.args.scope.now.fits)
+
+pub odd_among-requires-clause-first : goal.odd_among-requires-clause-first
+odd_among-requires-clause-first c =
+    subst IsStrictlyIncreasing (sym (c.deref.ensures.value ∙ c.in_ok-given.ensures))
+    (IsStrictlyIncreasing-filter (scope_problem c.args.scope.now).is_real c.as_slice.result.now
+    (subst IsStrictlyIncreasing (sym c.as_slice.ensures.defects) c.as_slice.ensures.rising))
+
+pub odd_among-requires-clause-second : goal.odd_among-requires-clause-second
+odd_among-requires-clause-second c =
+    subst IsStrictlyIncreasing (sym (c.deref-2.ensures.value ∙ c.in_ok-by_graph.ensures))
+    (IsStrictlyIncreasing-filter (scope_problem c.args.scope.now).is_real c.turned.result.now c.turned.ensures.rising)
+
+pub odd_among-requires-clause-third : goal.odd_among-requires-clause-third
+odd_among-requires-clause-third c =
+    subst IsStrictlyIncreasing (sym (c.deref-3.ensures.value ∙ c.in_ok-by_shot.ensures))
+    (IsStrictlyIncreasing-filter (scope_problem c.args.scope.now).is_real c.turned-2.result.now
+    (subst IsStrictlyIncreasing (sym c.turned-2.ensures.vertices) c.turned-2.ensures.rising))
 
 pub returns-clause-shifted : goal.returns-clause-shifted
 returns-clause-shifted c =

@@ -1,5 +1,4 @@
 use Rattle.std.proofs.Common.{◌∙◌, ◌++◌, drop, length, map, refl, sym, ap, subst}
-use Rattle.std.specs.Prelude.{OnOk}
 use Rattle.std.specs.List.Sorted.{IsStrictlyIncreasing}
 use Rattle.fb_graph.specs.Certificate.{AreDistinct}
 use Rattle.fb_links.specs.Names.{name_by}
@@ -14,12 +13,9 @@ use Rattle.fb_half.specs.Matchings.{listed_names, matched_names}
 use Rattle.fb_half.specs.InternalUnions.{IsRisingUnion}
 use Rattle.fb_half.specs.Merged.{renamed_match, shot_seam}
 use Rattle.fb_half.specs.Merged as promised
-use Rattle.fb_half.specs.Parts.{IsPart, PartValue, graph_in, problem_in, shot_of}
-use Rattle.fb_half.specs.Seams.{AreListed}
+use Rattle.fb_half.specs.Parts.{IsPart, PartValue, graph_in, shot_of}
 use Rattle.fb_half.specs.Values.{IsScopeOf, part_of}
-use Rattle.fb_half.specs.declared.merging.MergedParts.{MergedParts}
 use Rattle.fb_half.proofs.BesideNodes.{new_names}
-use Rattle.fb_half.proofs.DoneSteps.{done_with}
 use Rattle.fb_half.proofs.FusedHalves.{fused_part}
 use Rattle.fb_half.proofs.FusedMatches.{merged_is}
 use Rattle.fb_half.proofs.GivenHalves.{halves_of, pieces_are}
@@ -155,41 +151,35 @@ invariant_of-result c =
       matches = l.matches ++ map (renamed_match (name_by c.in_ok-merged.merged.link_names.items) (name_by c.in_ok-merged.merged.names.items)) c.in_ok-merged.merged.others.matches;
       unmatched = l.unmatched;
     }) c.in_ok-merged.ensures.matching) in
-    let keeps : (P : MergedParts → Type 0) → OnOk c.complete.result (P c.complete.new.merged) → P c.in_ok-whole.whole =
-    λ P. done_with P c.complete.result c.complete.new.merged c.in_ok-whole.whole c.in_ok-whole.ensures in
-    let scope : IsScopeOf c.in_ok-whole.whole.parts.regions.scope (part_of c.in_ok-whole.whole.parts) =
-    keeps (λ m. IsScopeOf m.parts.regions.scope (part_of m.parts)) c.complete.ensures.scope in
-    let opened : IsOpened (drop (length (made.matching.unmatched ++ met_nodes made)) c.in_ok-whole.whole.parts.matching.unmatched) made (part_of c.in_ok-whole.whole.parts) =
-    keeps (λ m. IsOpened (drop (length (made.matching.unmatched ++ met_nodes made)) m.parts.matching.unmatched) made (part_of m.parts)) c.complete.ensures.opened in (
+    let scope : IsScopeOf c.complete.new.merged.parts.regions.scope (part_of c.complete.new.merged.parts) =
+    c.in_ok-complete.ensures.scope in
+    let opened : IsOpened (drop (length (made.matching.unmatched ++ met_nodes made)) c.complete.new.merged.parts.matching.unmatched) made (part_of c.complete.new.merged.parts) =
+    c.in_ok-complete.ensures.opened in (
       record {
         graph = scope.graph;
         plan = scope.plan;
         node = scope.node;
         listed =
-            keeps (λ m. AreListed (problem_in (part_of m.parts)).is_real m.parts.job.now.plan m.parts.seams m.parts.links m.parts.matching.matches)
-            c.complete.ensures.listed;
+            c.in_ok-complete.ensures.listed;
         defects =
             given_joined (part_of c.into_parts-left.result) (part_of c.into_parts-right.result) c.args.node h.limits h.children h.one h.two h.matched h.also
-            (part_of c.in_ok-whole.whole.parts) c.in_ok-merged.merged.parts.defects.items c.in_ok-merged.merged.other_defects.items c.in_ok-whole.whole.parts.defects.items
+            (part_of c.complete.new.merged.parts) c.in_ok-merged.merged.parts.defects.items c.in_ok-merged.merged.other_defects.items c.complete.new.merged.parts.defects.items
             (opened.job ∙ c.in_ok-merged.ensures.job) (opened.slot ∙ c.in_ok-merged.ensures.slot)
             (opened.node ∙ (c.in_ok-merged.ensures.node ∙ c.scope-scope.ensures.node)) h.same_job h.same_slot
             (c.in_ok-merged.ensures.defects ∙ c.into_parts-left.ensures.scope.defects)
             (c.in_ok-merged.ensures.other_defects ∙ c.into_parts-right.ensures.scope.defects)
-            (subst (λ l. IsRisingUnion (c.in_ok-merged.merged.parts.defects.items ++ c.in_ok-merged.merged.other_defects.items) l c.in_ok-whole.whole.parts.defects.items)
+            (subst (λ l. IsRisingUnion (c.in_ok-merged.merged.parts.defects.items ++ c.in_ok-merged.merged.other_defects.items) l c.complete.new.merged.parts.defects.items)
             (λ i. shot_seam (c.in_ok-merged.ensures.job i) (c.in_ok-merged.ensures.slot i) ((c.in_ok-merged.ensures.node ∙ c.scope-scope.ensures.node) i))
-            (keeps (λ m. IsRisingUnion (c.in_ok-merged.merged.parts.defects.items ++ c.in_ok-merged.merged.other_defects.items)
-            (shot_seam c.in_ok-merged.merged.parts.job.now c.in_ok-merged.merged.parts.slot c.in_ok-merged.merged.parts.node) m.parts.defects.items)
-            c.complete.ensures.defects));
+            c.in_ok-complete.ensures.defects);
       },
       fused_part (part_of c.into_parts-left.result) (part_of c.into_parts-right.result) c.args.node h.limits h.children h.one h.two h.matched h.also
           c.in_ok-merged.merged.link_names.items c.in_ok-merged.merged.names.items c.in_ok-merged.merged.parts.links c.in_ok-merged.merged.parts.blossoms c.in_ok-merged.ensures.links stores
-          (drop (length (made.matching.unmatched ++ met_nodes made)) c.in_ok-whole.whole.parts.matching.unmatched) (part_of c.in_ok-whole.whole.parts)
+          (drop (length (made.matching.unmatched ++ met_nodes made)) c.complete.new.merged.parts.matching.unmatched) (part_of c.complete.new.merged.parts)
           (beside (part_of c.into_parts-left.result) (part_of c.into_parts-right.result) c.args.node h.limits h.children h.one h.two h.matched h.also
           c.in_ok-merged.merged.link_names.items c.in_ok-merged.merged.names.items c.in_ok-merged.merged.parts.links c.in_ok-merged.merged.parts.blossoms c.in_ok-merged.ensures.links stores)
           refl
-          (subst (λ x. IsOpened (drop (length (made.matching.unmatched ++ met_nodes made)) c.in_ok-whole.whole.parts.matching.unmatched) x (part_of c.in_ok-whole.whole.parts)) same
-          (done_with (λ (m : MergedParts). IsOpened (drop (length (made.matching.unmatched ++ met_nodes made)) m.parts.matching.unmatched) made (part_of m.parts))
-          c.complete.result c.complete.new.merged c.in_ok-whole.whole c.in_ok-whole.ensures c.complete.ensures.opened)),
+          (subst (λ x. IsOpened (drop (length (made.matching.unmatched ++ met_nodes made)) c.complete.new.merged.parts.matching.unmatched) x (part_of c.complete.new.merged.parts)) same
+          c.in_ok-complete.ensures.opened),
     )
 
 pub returns : goal.returns
@@ -212,15 +202,14 @@ returns c =
       matches = l.matches ++ map (renamed_match (name_by c.in_ok-merged.merged.link_names.items) (name_by c.in_ok-merged.merged.names.items)) c.in_ok-merged.merged.others.matches;
       unmatched = l.unmatched;
     }) c.in_ok-merged.ensures.matching) in
-    subst (λ j. promised.IsMerged j c.args.node c.args.left c.args.right (part_of c.in_ok-whole.whole.parts)) h.job
-    (subst (λ x. promised.IsMerged c.into_parts-left.result.job.now c.args.node x c.args.right (part_of c.in_ok-whole.whole.parts)) c.into_parts-left.ensures.value
-    (subst (λ x. promised.IsMerged c.into_parts-left.result.job.now c.args.node (part_of c.into_parts-left.result) x (part_of c.in_ok-whole.whole.parts)) c.into_parts-right.ensures.value
+    subst (λ j. promised.IsMerged j c.args.node c.args.left c.args.right (part_of c.complete.new.merged.parts)) h.job
+    (subst (λ x. promised.IsMerged c.into_parts-left.result.job.now c.args.node x c.args.right (part_of c.complete.new.merged.parts)) c.into_parts-left.ensures.value
+    (subst (λ x. promised.IsMerged c.into_parts-left.result.job.now c.args.node (part_of c.into_parts-left.result) x (part_of c.complete.new.merged.parts)) c.into_parts-right.ensures.value
     (merged_is (part_of c.into_parts-left.result) (part_of c.into_parts-right.result) c.args.node h.limits h.children h.one h.two h.matched h.also
     c.in_ok-merged.merged.link_names.items c.in_ok-merged.merged.names.items c.in_ok-merged.merged.parts.links c.in_ok-merged.merged.parts.blossoms c.in_ok-merged.ensures.links stores
     h.same_job
-    (drop (length (made.matching.unmatched ++ met_nodes made)) c.in_ok-whole.whole.parts.matching.unmatched) (part_of c.in_ok-whole.whole.parts)
+    (drop (length (made.matching.unmatched ++ met_nodes made)) c.complete.new.merged.parts.matching.unmatched) (part_of c.complete.new.merged.parts)
     (beside (part_of c.into_parts-left.result) (part_of c.into_parts-right.result) c.args.node h.limits h.children h.one h.two h.matched h.also
     c.in_ok-merged.merged.link_names.items c.in_ok-merged.merged.names.items c.in_ok-merged.merged.parts.links c.in_ok-merged.merged.parts.blossoms c.in_ok-merged.ensures.links stores)
-    (subst (λ x. IsOpened (drop (length (made.matching.unmatched ++ met_nodes made)) c.in_ok-whole.whole.parts.matching.unmatched) x (part_of c.in_ok-whole.whole.parts)) same
-    (done_with (λ (m : MergedParts). IsOpened (drop (length (made.matching.unmatched ++ met_nodes made)) m.parts.matching.unmatched) made (part_of m.parts))
-    c.complete.result c.complete.new.merged c.in_ok-whole.whole c.in_ok-whole.ensures c.complete.ensures.opened)))))
+    (subst (λ x. IsOpened (drop (length (made.matching.unmatched ++ met_nodes made)) c.complete.new.merged.parts.matching.unmatched) x (part_of c.complete.new.merged.parts)) same
+    c.in_ok-complete.ensures.opened))))
