@@ -143,7 +143,8 @@ impl<'a> Game<'a> {
         roles: &DrawnRoles,
     ) -> Result<(), AllocError> {
         self.watched
-            .renew(alloc, draws, self.plain.graph, &self.readings, roles)
+            .renew(alloc, draws, self.plain.graph, &self.readings, roles)?;
+        self.watched.renew_minus(draws, &self.regions, roles)
     }
 
     /// Compares the watched edges after a call for these roles.

@@ -3,7 +3,7 @@
 use crate::draws::Draws;
 use crate::plain::{PlainDual, PlainNode};
 use crate::readings::{Readings, names_end};
-use fb_obstacles::{MinusNodes, NodeId, Role, Roles};
+use fb_obstacles::{NodeId, Role, Roles};
 use std::alloc::{AllocError, Global};
 
 /// How much less often a node becomes minus whose top layer has value 0, since a minus node like that is an obstacle.
@@ -114,17 +114,5 @@ impl Roles for DrawnRoles {
             .get(node as usize)
             .copied()
             .unwrap_or(Role::Out)
-    }
-}
-
-impl MinusNodes for DrawnRoles {
-    ghost minus_names = { λ r. r.minus.items };
-
-    fn minus_count(&self) -> usize {
-        self.minus.len()
-    }
-
-    fn minus_at(&self, place: usize) -> NodeId {
-        self.minus[place]
     }
 }

@@ -4,8 +4,9 @@ use crate::draws::Draws;
 use crate::readings::Readings;
 use crate::roles::DrawnRoles;
 use crate::stopped::Stopped;
-use fb_graph::{Graph, Whole};
-use fb_obstacles::{NodeId, Role, Watch};
+use fb_graph::{Graph, Scope, Whole};
+use fb_obstacles::{NodeId, Role, Watch, enter_minus};
+use fb_regions::Regions;
 use std::alloc::{AllocError, Global};
 
 /// The edges that are watched, both ways.
@@ -14,6 +15,15 @@ pub struct Watched {
     pub watch: Watch,
     /// For each edge that is watched a number that its bound is at most.
     limits: Vec<Option<u64>>,
+    /// For nodes that were minus at the last call numbers that their bounds are at most.
+    minus: Vec<MinusLimit>,
+}
+
+/// A number that the bound of a minus node is at most.
+#[derive(Clone, Copy)]
+struct MinusLimit {
+    name: NodeId,
+    most: u64,
 }
 
 impl Watched {
@@ -22,6 +32,7 @@ impl Watched {
         Ok(Watched {
             watch: Watch::new(alloc, &Whole(graph))?,
             limits: vec![in alloc; None; graph.edge_count() as usize]?,
+            minus: Vec::new(alloc),
         })
     }
 
@@ -31,6 +42,7 @@ impl Watched {
         for limit in self.limits.iter_mut() {
             *limit = None;
         }
+        self.minus.clear();
     }
 
     /// Each residue may have fallen by this much.
@@ -39,6 +51,34 @@ impl Watched {
         for limit in self.limits.iter_mut() {
             *limit = limit.map(|most| most.saturating_sub(by));
         }
+        for limit in self.minus.iter_mut() {
+            limit.most = limit.most.saturating_sub(by);
+        }
+    }
+
+    /// Watches each minus node. One whose bound may be too high is entered anew, and so are some others.
+    pub fn renew_minus<S: Scope>(
+        &mut self,
+        draws: &mut Draws,
+        regions: &Regions<S>,
+        roles: &DrawnRoles,
+    ) -> Result<(), AllocError> {
+        for name in &roles.minus {
+            let most = 2 * regions.top_value(*name);
+            let mut known = self.minus.iter();
+            let is_bounded = known.any(|limit| limit.name == *name && limit.most <= most);
+            if !is_bounded || draws.happens(10) {
+                enter_minus(&mut self.watch, regions, *name)?;
+            }
+        }
+        self.minus.clear();
+        for name in &roles.minus {
+            self.minus.push(MinusLimit {
+                name: *name,
+                most: 2 * regions.top_value(*name),
+            })?;
+        }
+        Ok(())
     }
 
     /// Watches each edge that leads from a plus node to another node or none, in a random order, and of the other edges

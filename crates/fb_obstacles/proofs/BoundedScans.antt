@@ -347,3 +347,20 @@ scanned_before p role_of nodes tops beside old new l minus both o is blocks scan
     by Clear limits blocked = blocked
     by (Within b) limits blocked = blocked
     by (Blocked e) limits blocked = limits
+
+-- a scan that began after nodes had changed in the watch
+pub scanned_since : (p : Problem) (role_of : ℕ → Role) (nodes : List Node) (tops : List ℕ) (old between new : Watched) (l : Look)
+    → between ≡ record old { nodes = between.nodes } → HasScanned p role_of nodes tops between new l
+    → HasScanned p role_of nodes tops old new l
+scanned_since p role_of nodes tops old between new l same scanned = record {
+  limits = subst (λ es. LimitsBoth p (roles_by role_of) nodes tops es l) edges scanned.limits;
+  watched = record {
+    room = scanned.watched.room ∙ ap (λ w. w.edge_count) same;
+    kept = λ k watched apart. scanned.watched.kept k (ap (λ es. is_in es k) edges ∙ watched) apart;
+    none_new = λ k watched. sym (ap (λ es. is_in es k) edges) ∙ scanned.watched.none_new k watched;
+  };
+  bounded = scanned.bounded;
+}
+  where
+    edges : between.edges ≡ old.edges
+    edges = ap (λ w. w.edges) same

@@ -1,7 +1,7 @@
 -- What the looks at all minus nodes and all watched edges tell of the tree.
 use Rattle.std.proofs.Common.{ℕ, ◌≡◌, ◌+◌, ◌≤◌, ◌<◌, ◌⊎◌, inl, inr, true, false, List, length, get_or, None, All, sym, ap, ◌∙◌, subst, arith}
 use Rattle.std.proofs.lemmas.Bool.{both_ways, cases_Bool}
-use Rattle.std.proofs.lemmas.List.Elements.{All-from_get_or, All-map}
+use Rattle.std.proofs.lemmas.List.Elements.{All-from_get_or}
 use Rattle.fb_graph.specs.Parity.{is_in}
 use Rattle.fb_graph.specs.Problem.{Problem, edge_at, no_edge, with_defects}
 use Rattle.fb_graph.specs.Laws.{HasNoOddClosed}
@@ -11,24 +11,22 @@ use Rattle.fb_graph.specs.Dual.{Node, IsDual, AreUnderOne, all_cuts, cover_of, i
 use Rattle.fb_graph.specs.Steps.{Roles, MayStep}
 use Rattle.fb_graph.specs.Covers.{AreRoles, HasNoObstacle, is_covered_by, passes}
 use Rattle.fb_graph.specs.declared.parts.Edge.{Edge}
-use Rattle.fb_graph.proofs.Among.{All_unmapped}
 use Rattle.fb_graph.proofs.Crossings.{exclusive_over, under_or_not}
 use Rattle.fb_graph.proofs.Sets.{All-from_is_in, is_in-All}
 use Rattle.fb_laws.specs.Lengths.{HasPlus}
 use Rattle.fb_laws.proofs.MetLinks.{uncovered_real}
 use Rattle.fb_laws.proofs.StepBounds.{edge_allows, edge_within_allows, no_obstacle_before}
 use Rattle.fb_laws.proofs.StepLengths.{no_length, greatest_step}
-use Rattle.fb_regions.specs.Moves.{node_named}
 use Rattle.fb_obstacles.specs.declared.obstacle.Obstacle.{Obstacle}
 use Rattle.fb_obstacles.specs.declared.obstacle.Obstacle.TheVariants as obstacle
 use Rattle.fb_obstacles.specs.declared.looking.Look.{Look}
 use Rattle.fb_obstacles.specs.declared.looking.Look.TheVariants.{Within}
-use Rattle.fb_obstacles.specs.Obstacles.{BearsStep, IsFree, IsObstacle, IsTightFrom, IsWatched, ListsMinus, Obstructs}
+use Rattle.fb_obstacles.specs.Obstacles.{BearsStep, IsFree, IsObstacle, IsTightFrom, IsWatched, Obstructs}
 use Rattle.fb_obstacles.specs.InnerEdges.{LeavesInner}
 use Rattle.fb_obstacles.specs.Watched.{Watched}
-use Rattle.fb_obstacles.specs.InternalLooks.{IsAtMostEach, Limits, LimitsBoth, tops_of}
+use Rattle.fb_obstacles.specs.InternalLooks.{IsAtMostEach, Limits, LimitsBoth, minus_tops}
 use Rattle.fb_obstacles.proofs.LookLimits.{limits_same}
-use Rattle.fb_obstacles.proofs.NodeLooks.{listed_shrinking, named_place, shrinking_listed}
+use Rattle.fb_obstacles.proofs.NodeLooks.{allow_tops, named_place, tops_allow}
 
 -- an edge that isn't watched allows each step
 unwatched_bears : (p : Problem) (roles : Roles) (nodes : List Node) (watched : List ℕ) (j k : ℕ) → IsDual p nodes
@@ -61,20 +59,19 @@ watched_without_inner p roles nodes old new leaves seen = record {
 }
 
 -- the lengths that the minus nodes and the watched edges allow are those by which the tree may step
-pub look_limits : (p : Problem) (roles : Roles) (nodes : List Node) (names watched : List ℕ) (l : Look) → IsDual p nodes
-    → AreRoles roles nodes → ListsMinus roles nodes names → IsWatched p roles nodes watched
-    → LimitsBoth p roles nodes (tops_of nodes names) watched l → Limits (MayStep p roles nodes) (Obstructs p roles nodes) l
-look_limits p roles nodes names watched l dual are lists seen limits =
+pub look_limits : (p : Problem) (roles : Roles) (nodes : List Node) (watched : List ℕ) (l : Look) → IsDual p nodes
+    → AreRoles roles nodes → IsWatched p roles nodes watched
+    → LimitsBoth p roles nodes (minus_tops roles nodes) watched l → Limits (MayStep p roles nodes) (Obstructs p roles nodes) l
+look_limits p roles nodes watched l dual are seen limits =
     limits_same
-    (λ j. IsAtMostEach j (tops_of nodes names) × All (λ k. BearsStep roles nodes j (edge_at p.edges k)) watched)
+    (λ j. IsAtMostEach j (minus_tops roles nodes) × All (λ k. BearsStep roles nodes j (edge_at p.edges k)) watched)
     (MayStep p roles nodes) (Obstructs p roles nodes) l may only limits
   where
-    may : (j : ℕ) → IsAtMostEach j (tops_of nodes names) × All (λ k. BearsStep roles nodes j (edge_at p.edges k)) watched
+    may : (j : ℕ) → IsAtMostEach j (minus_tops roles nodes) × All (λ k. BearsStep roles nodes j (edge_at p.edges k)) watched
         → MayStep p roles nodes j
     may j (shrink, bear) = record {
       edges = All-from_get_or (BearsStep roles nodes j) p.edges no_edge (λ k less. step k less (cases_Bool (is_in watched k)));
-      tops = listed_shrinking roles nodes names j dual.names lists
-          (All_unmapped (λ top. j ≤ top) (λ name. (node_named nodes name).top.value) names shrink);
+      tops = tops_allow roles nodes j shrink;
     }
       where
         step : (k : ℕ) → k < length p.edges → (is_in watched k ≡ true) ⊎ (is_in watched k ≡ false)
@@ -83,9 +80,9 @@ look_limits p roles nodes names watched l dual are lists seen limits =
         step k less (inr absent) = unwatched_bears p roles nodes watched j k dual are seen less absent
 
     only : (j : ℕ) → MayStep p roles nodes j
-        → IsAtMostEach j (tops_of nodes names) × All (λ k. BearsStep roles nodes j (edge_at p.edges k)) watched
+        → IsAtMostEach j (minus_tops roles nodes) × All (λ k. BearsStep roles nodes j (edge_at p.edges k)) watched
     only j allowed = (
-      All-map (λ top. j ≤ top) (λ name. (node_named nodes name).top.value) names (shrinking_listed roles nodes names j lists allowed.tops),
+      allow_tops roles nodes j allowed.tops,
       λ i d less. allowed.edges (get_or watched i d) no_edge (seen.within i d less),
     )
 

@@ -29,7 +29,7 @@ outer_edge nodes e apart = by (is_inner nodes e) refl
 
 -- edge after edge
 pub watched_first : (p : Problem) (nodes : List Node) (w : Watched) → WatchesOuter p nodes [] w w
-watched_first p nodes w = record { room = refl; watched = λ k. refl; bounds = λ before after less right. bounded_by before after w (λ k. less k refl) right }
+watched_first p nodes w = record { room = refl; minus = refl; watched = λ k. refl; bounds = λ before after less right. bounded_by before after w (λ k. less k refl) right }
 
 pub watched_more : (p : Problem) (nodes : List Node) (edges : List ℕ) (i : ℕ) (a b c : Watched) → i < length edges
     → WatchesOuter p nodes (take i edges) a b → WatchesOuter p nodes (get_or edges i 0 ∷ []) b c
@@ -37,6 +37,7 @@ pub watched_more : (p : Problem) (nodes : List Node) (edges : List ℕ) (i : ℕ
 watched_more p nodes edges i a b c lt before more =
     subst (λ l. WatchesOuter p nodes l a c) (sym (take_more edges i 0 lt)) (record {
       room = more.room ∙ before.room;
+      minus = more.minus ∙ before.minus;
       watched = by;
       bounds =
           right_twice (λ k. is_in (take i edges) k ≡ false) (λ k. is_in (take i edges ++ get_or edges i 0 ∷ []) k ≡ false)
@@ -70,9 +71,11 @@ watched_whole p nodes edges i a b all outer = subst (λ l. WatchesOuter p nodes 
 -- an inner edge leaves
 pub watched_left : (p : Problem) (nodes : List Node) (edge : ℕ) (old new : Watched) → is_inner nodes (edge_at p.edges edge) ≡ true
     → new.edge_count ≡ old.edge_count → ((k : ℕ) → is_in new.edges k ≡ (is_in old.edges k && not (k == edge)))
-    → ((limit : ℕ → ℕ) → AreBounded limit old → AreBounded limit new) → WatchesOuter p nodes (edge ∷ []) old new
-watched_left p nodes edge old new inner room left bounds = record {
+    → ((limit : ℕ → ℕ) → AreBounded limit old → AreBounded limit new) → new.nodes ≡ old.nodes
+    → WatchesOuter p nodes (edge ∷ []) old new
+watched_left p nodes edge old new inner room left bounds minus = record {
   room = room;
+  minus = minus;
   watched = λ k. left k ∙ by k (cases_eq k edge);
   bounds = λ before after less right i inside.
       omega (
@@ -100,9 +103,10 @@ watched_left p nodes edge old new inner room left bounds = record {
 pub watched_entered : (p : Problem) (nodes : List Node) (edge : ℕ) (old new : Watched)
     → is_inner nodes (edge_at p.edges edge) ≡ false → new.edge_count ≡ old.edge_count
     → ((k : ℕ) → is_in new.edges k ≡ (is_in old.edges k || (k == edge)))
-    → StaysRight (λ k. (k == edge) ≡ false) old new → WatchesOuter p nodes (edge ∷ []) old new
-watched_entered p nodes edge old new outer room entered right = record {
+    → StaysRight (λ k. (k == edge) ≡ false) old new → new.nodes ≡ old.nodes → WatchesOuter p nodes (edge ∷ []) old new
+watched_entered p nodes edge old new outer room entered right minus = record {
   room = room;
+  minus = minus;
   watched = λ k. entered k ∙ by k (cases_eq k edge);
   bounds = λ before after less. right before after (λ k other. less k (here k other));
 }
@@ -123,6 +127,7 @@ pub taken_watched : (p : Problem) (nodes : List Node) (v : ℕ) (edges : List �
     → WatchesOuter p nodes edges old new → WatchesTaken p nodes v old new
 taken_watched p nodes v edges old new e outer = record {
   room = outer.room;
+  minus = outer.minus;
   bounds = λ before after less. outer.bounds before after (λ k out. less k (untouched p v edges k e out));
   watched = λ k less.
       outer.watched k

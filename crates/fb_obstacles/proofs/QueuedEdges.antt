@@ -69,7 +69,7 @@ first_swapped n xs i j one other most =
 -- The watched edges exchange their places.
 module _ (w : Watched) (i j : ℕ) (even : length w.bounds ≡ length w.edges) (first : i < length w.edges) (second : j < length w.edges) where
   abbrev pub exchanged : ℕ → Watched
-  exchanged n = record { edge_count = w.edge_count; edges = swap w.edges i j; bounds = swap w.bounds i j; queued = n }
+  exchanged n = record { edge_count = w.edge_count; edges = swap w.edges i j; bounds = swap w.bounds i j; queued = n; nodes = w.nodes }
 
   bounded_exchanged : (limit : ℕ → ℕ) (n : ℕ) → AreBounded limit w → AreBounded limit (exchanged n)
   bounded_exchanged limit n bounded k less = step (cases_eq k i) (cases_eq k j)
@@ -108,17 +108,19 @@ module _ (w : Watched) (i j : ℕ) (even : length w.bounds ≡ length w.edges) (
     edges = λ e.
         sym (list_any-IsPermutation (λ u. u == e) w.edges (swap w.edges i j) (IsPermutation-swap w.edges (swap w.edges i j) i j first second refl));
     len = length-swap w.edges i j;
+    nodes = refl;
     bounds = λ limit bounded. bounded_exchanged limit n bounded;
   }
 
 pub reorders_none : (w : Watched) → Reorders w w
-reorders_none w = record { count = refl; edges = λ e. refl; len = refl; bounds = λ limit bounded. bounded }
+reorders_none w = record { count = refl; edges = λ e. refl; len = refl; nodes = refl; bounds = λ limit bounded. bounded }
 
 pub reorders_on : (a b c : Watched) → Reorders a b → Reorders b c → Reorders a c
 reorders_on a b c one other = record {
   count = other.count ∙ one.count;
   edges = λ e. other.edges e ∙ one.edges e;
   len = other.len ∙ one.len;
+  nodes = other.nodes ∙ one.nodes;
   bounds = λ limit bounded. other.bounds limit (one.bounds limit bounded);
 }
 
@@ -200,14 +202,14 @@ module _ (queue : List Due) (values keys : List ℕ) (even : length values ≡ l
 
 -- What is left in a queue after one was taken out that isn't this one.
 pub due_left : (d : Due) (old new : List Due) (v k : ℕ)
-    → is_due old v k ≡ (((d.growth == v) && (d.edge == k)) || is_due new v k) → is_due old v k ≡ true
-    → (k ≡ d.edge → v ≡ d.growth → ⊥) → is_due new v k ≡ true
-due_left d old new v k taken due other = step ((d.growth == v) && (d.edge == k)) refl (sym taken ∙ due)
+    → is_due old v k ≡ (((d.growth == v) && (d.number == k)) || is_due new v k) → is_due old v k ≡ true
+    → (k ≡ d.number → v ≡ d.growth → ⊥) → is_due new v k ≡ true
+due_left d old new v k taken due other = step ((d.growth == v) && (d.number == k)) refl (sym taken ∙ due)
   where
-    step : (b : Bool) → ((d.growth == v) && (d.edge == k)) ≡ b → (b || is_due new v k) ≡ true → is_due new v k ≡ true
+    step : (b : Bool) → ((d.growth == v) && (d.number == k)) ≡ b → (b || is_due new v k) ≡ true → is_due new v k ≡ true
     step true here any =
-        let both = and_parts (d.growth == v) (d.edge == k) here in
-        absurd (other (sym (eqb-true d.edge k both.1)) (sym (eqb-true d.growth v both.0)))
+        let both = and_parts (d.growth == v) (d.number == k) here in
+        absurd (other (sym (eqb-true d.number k both.1)) (sym (eqb-true d.growth v both.0)))
     step false here any = any
 
 -- distinct keys stand at one place each

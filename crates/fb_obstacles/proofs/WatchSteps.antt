@@ -36,6 +36,7 @@ untouched p v es k e out = by (cases_lt k (length p.edges))
 pub watched_none : (p : Problem) (w : Watched) → Watches p [] w w
 watched_none p w = record {
   room = refl;
+  minus = refl;
   kept = λ k h. h;
   near = λ v k mem below touch. absurd (false≢true mem);
   bounds = λ before after less right.
@@ -48,6 +49,7 @@ pub watched_more : (p : Problem) (vs : List ℕ) (v : ℕ) (es : List ℕ) (a b 
     → Watches p vs a b → Enters es b c → Watches p (v ∷ vs) a c
 watched_more p vs v es a b c e before more = record {
   room = more.room ∙ before.room;
+  minus = more.minus ∙ before.minus;
   bounds =
       right_twice (λ k. (u : ℕ) → is_in vs u ≡ true → touches u (edge_at p.edges k) ≡ false)
       (λ k. (u : ℕ) → is_in (v ∷ vs) u ≡ true → touches u (edge_at p.edges k) ≡ false) (is_in es) a b c away before.bounds
@@ -74,9 +76,10 @@ watched_more p vs v es a b c e before more = record {
 -- one edge more
 pub entered_on : (edges : List ℕ) (i : ℕ) (a b c : Watched) → i < length edges → c.edge_count ≡ b.edge_count
     → ((k : ℕ) → is_in c.edges k ≡ (is_in b.edges k || (k == get_or edges i 0)))
-    → StaysRight (λ k. (k == get_or edges i 0) ≡ false) b c → Enters (take i edges) a b → Enters (take (i + 1) edges) a c
-entered_on edges i a b c lt room entered right before = record {
+    → StaysRight (λ k. (k == get_or edges i 0) ≡ false) b c → c.nodes ≡ b.nodes → Enters (take i edges) a b → Enters (take (i + 1) edges) a c
+entered_on edges i a b c lt room entered right minus before = record {
   room = room ∙ before.room;
+  minus = minus ∙ before.minus;
   kept = λ k h. still k (before.kept k h);
   entered = λ k mem. by k (is_in-take_more edges i k lt mem);
   bounds =

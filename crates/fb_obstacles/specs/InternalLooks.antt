@@ -1,5 +1,5 @@
 -- How the edges and minus nodes are looked at.
-use Rattle.std.specs.Prelude.{ℕ, ◌≡◌, ◌+◌, ◌-◌, ◌*◌, ◌/◌, ◌^◌, ◌<◌, ◌≤◌, ◌==◌, Bool, true, false, min, nat_lt, nat_le, List, length, map, All, Option, Some, None, option_map, if◌then◌else◌}
+use Rattle.std.specs.Prelude.{ℕ, ◌≡◌, ◌+◌, ◌-◌, ◌*◌, ◌/◌, ◌^◌, ◌<◌, ◌≤◌, ◌==◌, Bool, true, false, min, nat_lt, nat_le, List, length, filter, map, All, Option, Some, None, option_map, if◌then◌else◌}
 use Rattle.fb_graph.specs.Parity.{is_in}
 use Rattle.fb_graph.specs.Problem.{Problem, edge_at}
 use Rattle.fb_graph.specs.Limits.{IsWithinLimits}
@@ -131,13 +131,13 @@ Limits Allowed Blocks (Within bound) =
     (1 ≤ bound) × ((k : ℕ) → k ≤ bound → Allowed k) × ((k : ℕ) → Allowed k → k ≤ bound)
 Limits Allowed Blocks (Blocked o) = Blocks o
 
--- the top layer of the node of this name is at least as thick
-abbrev pub BearsShrinking : List Node → ℕ → ℕ → Type 0
-BearsShrinking nodes j name = j ≤ (node_named nodes name).top.value
+-- how far the node of this name may shrink, if it is minus
+abbrev pub watched_look : Roles → List Node → ℕ → Look
+watched_look roles nodes name = if roles.is_minus name then node_look nodes name else Clear
 
--- how thick the top layers of the nodes of these names are
-abbrev pub tops_of : List Node → List ℕ → List ℕ
-tops_of nodes names = map (λ name. (node_named nodes name).top.value) names
+-- how thick the top layers of the minus nodes are
+abbrev pub minus_tops : Roles → List Node → List ℕ
+minus_tops roles nodes = map (λ n. n.top.value) (filter (λ n. roles.is_minus n.name) nodes)
 
 -- the length is at most each of these
 abbrev pub IsAtMostEach : ℕ → List ℕ → Type 0

@@ -1,8 +1,8 @@
 -- How the watched edges are stored: as the first keys of a map, of which the first wait in a queue.
-use Rattle.std.specs.Prelude.{ℕ, ◌≡◌, ◌==◌, ◌<◌, ◌≤◌, ◌+◌, ◌-◌, ◌^◌, ◌&&◌, true, not, All, List, length, get_or, take, swap}
+use Rattle.std.specs.Prelude.{ℕ, ◌≡◌, ◌==◌, ◌<◌, ◌≤◌, ◌+◌, ◌-◌, ◌^◌, ◌&&◌, true, not, All, List, length, get_or, map, take, swap}
 use Rattle.indexmap.specs.IndexMap.{IndexMap, keys, values, index_map_len, spare}
 use Rattle.fb_graph.specs.Parity.{is_in}
-use Rattle.fb_obstacles.specs.Watched.{AreBounded, Watched}
+use Rattle.fb_obstacles.specs.Watched.{AreBounded, NodeBound, Watched}
 use Rattle.fb_obstacles.specs.InternalQueue.{is_due}
 use Rattle.fb_obstacles.specs.declared.edge_hasher.EdgeHasher.{EdgeHasher}
 use Rattle.fb_obstacles.specs.declared.queue.Due.{Due}
@@ -23,6 +23,10 @@ pub record IsQueued (known : IndexMap ℕ ℕ EdgeHasher) (live queued : ℕ) (q
   pub watched : queued ≤ live
   pub due : AreDue queue (values known) (keys known) queued
 
+-- how far each node's growth is off
+abbrev pub node_bounds : List Due → ℕ → List NodeBound
+node_bounds due lowered = map (λ d. record { name = d.number; bound = d.growth - lowered }) due
+
 -- the edge at a place in the queue comes to stand behind those that wait there
 abbrev pub unqueued : ℕ → Watched → Watched
 unqueued place w = record {
@@ -30,6 +34,7 @@ unqueued place w = record {
   edges = swap w.edges place (w.queued - 1);
   bounds = swap w.bounds place (w.queued - 1);
   queued = w.queued - 1;
+  nodes = w.nodes;
 }
 
 -- bounds that are right stay so for limits that aren't less at these edges
@@ -37,11 +42,12 @@ abbrev pub StaysRight : (ℕ → Type 0) → Watched → Watched → Type 0
 StaysRight Kept old new =
     (before after : ℕ → ℕ) → ((k : ℕ) → Kept k → before k ≤ after k) → AreBounded before old → AreBounded after new
 
--- the same edges are watched, in another order, with bounds that are as right
+-- the same edges and nodes are watched, the edges in another order, with bounds that are as right
 pub record Reorders (old new : Watched) : Type 0 where
   pub count : new.edge_count ≡ old.edge_count
   pub edges : (e : ℕ) → is_in new.edges e ≡ is_in old.edges e
   pub len : length new.edges ≡ length old.edges
+  pub nodes : new.nodes ≡ old.nodes
   pub bounds : (limit : ℕ → ℕ) → AreBounded limit old → AreBounded limit new
 
 -- The watch before and after a scan chooses the next edge: the one at the place `at` is the next to be looked at of those at

@@ -1,5 +1,6 @@
 pub mod EdgeHashes
 pub mod InnerEdges
+pub mod InternalHeap
 pub mod InternalLooks
 pub mod InternalQueue
 pub mod InternalSingles

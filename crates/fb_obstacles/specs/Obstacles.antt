@@ -1,6 +1,7 @@
 -- What is in the way of an alternating tree (Wu and Zhong 2023).
 use Rattle.std.specs.Prelude.{ℕ, ◌≡◌, ◌+◌, ◌-◌, ◌*◌, ◌^◌, ◌<◌, ◌≤◌, ◌⊎◌, ◌&&◌, ◌||◌, Bool, true, false, not, if◌then◌else◌, List, [], length, All, Some, None}
 use Rattle.fb_graph.specs.Parity.{is_in}
+use Rattle.fb_obstacles.specs.Watched.{Watched, has_bound}
 use Rattle.fb_graph.specs.Problem.{Problem, edge_at}
 use Rattle.fb_graph.specs.Certificate.{load_of}
 use Rattle.fb_graph.specs.Components.{Leads}
@@ -71,10 +72,14 @@ BearsStep roles nodes j e =
 abbrev pub HavePlusParity : Roles → List Node → Type 0
 HavePlusParity roles nodes = (r : ℕ) × HaveParity roles.is_plus nodes r
 
--- the names are those of all minus nodes, and of no other
-pub record ListsMinus (roles : Roles) (nodes : List Node) (names : List ℕ) : Type 0 where
-  pub every : All (λ n. roles.is_minus n.name ≡ true → is_in names n.name ≡ true) nodes
-  pub only : All (λ name. (is_live nodes name ≡ true) × (roles.is_minus name ≡ true)) names
+-- only nodes are minus
+abbrev pub AreMinusLive : Roles → List Node → Type 0
+AreMinusLive roles nodes = (name : ℕ) → roles.is_minus name ≡ true → is_live nodes name ≡ true
+
+-- each minus node is watched, with a bound of at most twice the value of its top layer
+abbrev pub AreMinusBounded : Roles → List Node → Watched → Type 0
+AreMinusBounded roles nodes watched =
+    All (λ n. roles.is_minus n.name ≡ true → has_bound watched.nodes n.name (2 * n.top.value) ≡ true) nodes
 
 -- the numbers are those of edges, among them each edge that has an end under a plus node and its other end not under
 -- that node

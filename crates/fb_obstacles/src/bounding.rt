@@ -1,13 +1,13 @@
 ghost use Rattle.std.specs.Prelude.{ℕ, ◌≡◌, ◌+◌, ◌<◌, ◌≤◌, true, List, length, get_or, All, IfNone, IfSome};
 ghost use Rattle.fb_graph.specs.Covers.{AreRoles};
-ghost use Rattle.fb_obstacles.specs.Obstacles.{HavePlusParity, ListsMinus, slack_at, roles_by};
+ghost use Rattle.fb_obstacles.specs.Obstacles.{HavePlusParity, AreMinusBounded, AreMinusLive, slack_at, roles_by};
 ghost use Rattle.fb_obstacles.specs.Watched.{AreBounded};
-ghost use Rattle.fb_obstacles.specs.InternalLooks.{HasScanned, HasScannedAfter, IsSeen, LimitsMinus, both_looks, fits_within, tops_of};
+ghost use Rattle.fb_obstacles.specs.InternalLooks.{HasScanned, HasScannedAfter, IsSeen, LimitsMinus, both_looks, fits_within, minus_tops};
 ghost use Rattle.fb_obstacles.specs.InternalWatch.{IsNext};
 
 use crate::ends::keeps_dual;
 use crate::looking::{Look, look_between};
-use crate::shrinking::{MinusNodes, look_at_minus};
+use crate::shrinking::look_at_minus;
 use crate::watching::Watch;
 use fb_graph::{Scope, Steps};
 use fb_regions::{Regions, Roles};
@@ -59,11 +59,11 @@ struct Scan {
     place: usize,
 }
 
-/// A look at all minus nodes and watched edges, up to the first obstacle. Passes over each edge whose bound shows that it
-/// bears what the others allow, without a look at the bounds of those that wait in the queue with a later one. Sets the bound
+/// A look at the minus node that is due first and the watched edges, up to the first obstacle. Passes over each edge whose bound
+/// shows that it bears what the others allow, without a look at the bounds of those that wait in the queue with a later one. Sets the bound
 /// of each edge that it looks at to what it bears in these roles, and puts it into the queue again. An edge both of whose ends
 /// one outer node holds never limits the step: if the look finds one, it is watched no longer.
-pub fn look_by_bounds<S: Scope, R: MinusNodes, L: Ledger>(
+pub fn look_by_bounds<S: Scope, R: Roles, L: Ledger>(
     watch: &mut Watch,
     scope: &S,
     regions: &Regions<S>,
@@ -72,11 +72,13 @@ pub fn look_by_bounds<S: Scope, R: MinusNodes, L: Ledger>(
 ) -> Look
     requires same { regions.now.scope ≡ scope.now }
     requires roles { AreRoles (roles_by (R.role_of roles.now)) regions.now.nodes }
-    requires minus { ListsMinus (roles_by (R.role_of roles.now)) regions.now.nodes (R.minus_names roles.now) }
+    requires live { AreMinusLive (roles_by (R.role_of roles.now)) regions.now.nodes }
+    requires minus { AreMinusBounded (roles_by (R.role_of roles.now)) regions.now.nodes watch.old }
     requires parity { HavePlusParity (roles_by (R.role_of roles.now)) regions.now.nodes }
     requires within { All (λ k. k < length (S.problem scope.now).edges) watch.old.edges }
     requires bounded { AreBounded (slack_at (S.problem scope.now) (roles_by (R.role_of roles.now)) regions.now.nodes) watch.old }
-    ensures scanned { HasScanned (S.problem scope.now) (R.role_of roles.now) regions.now.nodes (tops_of regions.now.nodes (R.minus_names roles.now)) watch.old watch.new result }
+    ensures scanned { HasScanned (S.problem scope.now) (R.role_of roles.now) regions.now.nodes (minus_tops (roles_by (R.role_of roles.now)) regions.now.nodes) watch.old watch.new result }
+    ensures minus { AreMinusBounded (roles_by (R.role_of roles.now)) regions.now.nodes watch.new }
     ensures looks { (looks.old ≤ looks.new) × (looks.new ≤ looks.old + length watch.old.edges) }
 {
     keeps_seen(watch, scope, regions, roles);
@@ -86,7 +88,7 @@ pub fn look_by_bounds<S: Scope, R: MinusNodes, L: Ledger>(
 }
 
 /// Does nothing. Its clause says what is known of the state that edges are looked at in.
-fn keeps_seen<S: Scope, R: MinusNodes>(watch: &Watch, scope: &S, regions: &Regions<S>, roles: &R)
+fn keeps_seen<S: Scope, R: Roles>(watch: &Watch, scope: &S, regions: &Regions<S>, roles: &R)
     requires same { regions.now.scope ≡ scope.now }
     requires roles { AreRoles (roles_by (R.role_of roles.now)) regions.now.nodes }
     requires parity { HavePlusParity (roles_by (R.role_of roles.now)) regions.now.nodes }
@@ -100,7 +102,7 @@ fn keeps_seen<S: Scope, R: MinusNodes>(watch: &Watch, scope: &S, regions: &Regio
 /// The look, whose edges are not put into the queue again. If a minus node is an obstacle, a tight edge comes before it, since
 /// an edge may end the search, and a blossom that is opened, or a layer that is taken off, for a node that soon grows again is
 /// work for nothing. Then only edges whose bounds don't show that they bear a step of length 1 are looked at.
-fn scan_by_bounds<S: Scope, R: MinusNodes, L: Ledger>(
+fn scan_by_bounds<S: Scope, R: Roles, L: Ledger>(
     watch: &mut Watch,
     scope: &S,
     regions: &Regions<S>,
@@ -108,13 +110,15 @@ fn scan_by_bounds<S: Scope, R: MinusNodes, L: Ledger>(
     looks: &mut Steps<L>,
 ) -> Scan
     requires same { regions.now.scope ≡ scope.now }
-    requires minus { ListsMinus (roles_by (R.role_of roles.now)) regions.now.nodes (R.minus_names roles.now) }
+    requires live { AreMinusLive (roles_by (R.role_of roles.now)) regions.now.nodes }
+    requires minus { AreMinusBounded (roles_by (R.role_of roles.now)) regions.now.nodes watch.old }
     requires seen { IsSeen (S.problem scope.now) (R.role_of roles.now) regions.now.nodes watch.old.edges }
     requires bounded { AreBounded (slack_at (S.problem scope.now) (roles_by (R.role_of roles.now)) regions.now.nodes) watch.old }
-    ensures scanned { HasScanned (S.problem scope.now) (R.role_of roles.now) regions.now.nodes (tops_of regions.now.nodes (R.minus_names roles.now)) watch.old watch.new result.look }
+    ensures scanned { HasScanned (S.problem scope.now) (R.role_of roles.now) regions.now.nodes (minus_tops (roles_by (R.role_of roles.now)) regions.now.nodes) watch.old watch.new result.look }
+    ensures minus { AreMinusBounded (roles_by (R.role_of roles.now)) regions.now.nodes watch.new }
     ensures looks { (looks.old ≤ looks.new) × (looks.new ≤ looks.old + length watch.old.edges) }
 {
-    let minus = look_at_minus(regions, roles);
+    let minus = look_at_minus(watch, regions, roles);
     let Look::Blocked(_) = minus else {
         return scan_edges(watch, scope, regions, roles, minus, looks);
     };
@@ -140,6 +144,7 @@ fn scan_edges<S: Scope, R: Roles, L: Ledger>(
     requires bounded { AreBounded (slack_at (S.problem scope.now) (roles_by (R.role_of roles.now)) regions.now.nodes) watch.old }
     requires minus { (tops : List ℕ) × LimitsMinus (S.problem scope.now) (R.role_of roles.now) regions.now.nodes tops minus }
     ensures scanned { HasScannedAfter (S.problem scope.now) (R.role_of roles.now) regions.now.nodes minus watch.old watch.new result.look }
+    ensures nodes { watch.new.nodes ≡ watch.old.nodes }
     ensures looks { (looks.old ≤ looks.new) × (looks.new ≤ looks.old + length watch.old.edges) }
 {
     watch.keeps();

@@ -1,14 +1,14 @@
-//! Edges that come under watch: those at a node, and those at a vertex that a node absorbs.
+//! What comes under watch: the edges at a node, those at a vertex that a node absorbs, and minus nodes.
 
-ghost use Rattle.std.specs.Prelude.{◌≡◌, ◌<◌, true, [], ◌∷◌, All, length};
+ghost use Rattle.std.specs.Prelude.{◌≡◌, ◌<◌, true, [], ◌*◌, ◌∷◌, All, OnOk, length};
 ghost use Rattle.fb_graph.specs.Problem.{edge_at};
 ghost use Rattle.fb_graph.specs.Dual.{is_live, top_at};
-ghost use Rattle.fb_regions.specs.Moves.{outer_end};
+ghost use Rattle.fb_regions.specs.Moves.{node_named, outer_end};
 ghost use Rattle.fb_obstacles.specs.InnerEdges.{is_inner, is_one_node};
-ghost use Rattle.fb_obstacles.specs.InternalWatching.{Enters, Watches, WatchesOuter, WatchesTaken};
+ghost use Rattle.fb_obstacles.specs.InternalWatching.{Enters, EntersNode, Watches, WatchesOuter, WatchesTaken};
 
 use crate::Watch;
-use fb_graph::Scope;
+use fb_graph::{NoMemory, Scope};
 use fb_regions::{NodeId, Regions};
 
 /// Watches these edges from now on.
@@ -93,4 +93,16 @@ pub fn free_end<S: Scope>(scope: &S, regions: &Regions<S>, edge: u32) -> u32
     } else {
         first
     }
+}
+
+/// Watches the node, which becomes minus, from now on. Takes memory for it.
+pub fn enter_minus<S: Scope>(
+    watch: &mut Watch,
+    regions: &Regions<S>,
+    node: NodeId,
+) -> Result<(), NoMemory>
+    requires { is_live regions.now.nodes node ≡ true }
+    ensures { OnOk result (EntersNode node (2 * (node_named regions.now.nodes node).top.value) watch.old watch.new) }
+{
+    watch.enter_node(node, regions.top_value(node))
 }

@@ -5,26 +5,24 @@ ghost use Rattle.fb_graph.specs.Dual.{leaves};
 ghost use Rattle.fb_graph.specs.Covers.{AreRoles};
 ghost use Rattle.fb_laws.specs.Lengths.{HasPlus};
 ghost use Rattle.fb_obstacles.specs.InnerEdges.{LeavesInner};
-ghost use Rattle.fb_obstacles.specs.Obstacles.{BearsStep, HavePlusParity, IsAtEdge, IsObstacle, IsWatched, ListsMinus, Obstructs, roles_by, slack_at};
+ghost use Rattle.fb_obstacles.specs.Obstacles.{AreMinusBounded, AreMinusLive, BearsStep, HavePlusParity, IsAtEdge, IsObstacle, IsWatched, Obstructs, roles_by, slack_at};
 ghost use Rattle.fb_obstacles.specs.Watched.{AreBounded};
 
 use crate::bounding::look_by_bounds;
 use crate::ends::keeps_dual;
 use crate::looking::{Look, look_between};
 use crate::obstacle::Obstacle;
-use crate::shrinking::MinusNodes;
 use crate::watching::Watch;
 use fb_graph::{Scope, Steps};
 use fb_regions::{Regions, Roles};
 use std::sync::ledger::Ledger;
 
-/// An obstacle in the way of the tree with these roles, or how far the tree may step. Takes no memory. Looks at each minus node,
-/// and at those watched edges whose bounds don't show that they bear the step, up to the first obstacle. Sets the bound of each
-/// edge that it looks at to what the edge bears in these roles, and counts a look for it. An edge that is found inside one
-/// outer node is watched no longer.
-///
-/// The roles list the minus nodes, since a search for them would take time for each node at each step.
-pub fn next_obstacle<S: Scope, R: MinusNodes, L: Ledger>(
+/// An obstacle in the way of the tree with these roles, or how far the tree may step. Takes no memory. Looks at the minus node
+/// that is due first, and at those watched edges whose bounds don't show that they bear the step, up to the first obstacle. An
+/// edge comes before a minus node that is due with it. Sets the bound of each edge that it looks at to what the edge bears in
+/// these roles, and counts a look for it. An edge that is found inside one outer node is watched no longer, nor is a node that
+/// isn't minus any longer once it is due first.
+pub fn next_obstacle<S: Scope, R: Roles, L: Ledger>(
     watch: &mut Watch,
     scope: &S,
     regions: &Regions<S>,
@@ -34,7 +32,8 @@ pub fn next_obstacle<S: Scope, R: MinusNodes, L: Ledger>(
     requires same { regions.now.scope ≡ scope.now }
     requires plus { HasPlus (roles_by (R.role_of roles.now)) regions.now.nodes }
     requires roles { AreRoles (roles_by (R.role_of roles.now)) regions.now.nodes }
-    requires minus { ListsMinus (roles_by (R.role_of roles.now)) regions.now.nodes (R.minus_names roles.now) }
+    requires live { AreMinusLive (roles_by (R.role_of roles.now)) regions.now.nodes }
+    requires minus { AreMinusBounded (roles_by (R.role_of roles.now)) regions.now.nodes watch.old }
     requires parity { HavePlusParity (roles_by (R.role_of roles.now)) regions.now.nodes }
     requires even { HasNoOddClosed (with_defects (S.problem scope.now) (leaves regions.now.nodes)) }
     requires watched { IsWatched (S.problem scope.now) (roles_by (R.role_of roles.now)) regions.now.nodes watch.old.edges }
@@ -43,6 +42,7 @@ pub fn next_obstacle<S: Scope, R: MinusNodes, L: Ledger>(
     ensures left { LeavesInner (S.problem scope.now) regions.now.nodes watch.old watch.new }
     ensures watched { IsWatched (S.problem scope.now) (roles_by (R.role_of roles.now)) regions.now.nodes watch.new.edges }
     ensures bounded { AreBounded (slack_at (S.problem scope.now) (roles_by (R.role_of roles.now)) regions.now.nodes) watch.new }
+    ensures minus { AreMinusBounded (roles_by (R.role_of roles.now)) regions.now.nodes watch.new }
     ensures looks { (looks.old ≤ looks.new) × (looks.new ≤ looks.old + length watch.old.edges) }
 {
     keeps_dual(regions);

@@ -10,15 +10,14 @@ pub mod finding;
 mod looking;
 pub mod obstacle;
 pub mod queue;
-pub mod shrinking;
+mod shrinking;
 pub mod singles;
 pub mod watching;
 
-pub use entering::{free_end, watch_node, watch_taken};
+pub use entering::{enter_minus, free_end, watch_node, watch_taken};
 pub use fb_regions::{NodeId, Role, Roles};
 pub use finding::{next_obstacle, obstacle_at};
 pub use obstacle::Obstacle;
-pub use shrinking::MinusNodes;
 pub use singles::{
     Around, Reach, is_nearer, is_single, reach_over, room_beside, share, single_vertex, with_best,
 };

@@ -1,13 +1,15 @@
-ghost use Rattle.std.specs.Prelude.{ℕ, ◌≡◌, ◌+◌, ◌-◌, ◌/◌, ◌<◌, ◌≤◌, ◌==◌, ◌&&◌, ◌||◌, true, false, not, [], ◌∷◌, ◌++◌, length, map, get_or, set, nat_eq, nat_lt, None, swap, All, IfNone, IfOk, IfSome, MatchOption, if◌then◌else◌};
+ghost use Rattle.std.specs.Prelude.{ℕ, ◌≡◌, ◌+◌, ◌-◌, ◌*◌, ◌/◌, ◌^◌, ◌<◌, ◌≤◌, ◌==◌, ◌&&◌, ◌||◌, true, false, not, [], ◌∷◌, ◌++◌, length, map, get_or, set, nat_eq, nat_lt, None, swap, All, IfNone, IfOk, IfSome, OnOk, MatchOption, if◌then◌else◌};
 ghost use Rattle.std.specs.List.{position_or_len, swap_remove};
 ghost use Rattle.indexmap.specs.IndexMap.{get, keys, values, index_map_len, spare, set_value_at};
 ghost use Rattle.fb_graph.specs.Parity.{is_in};
 ghost use Rattle.fb_graph.specs.Counts.{as_count};
 ghost use Rattle.fb_graph.specs.Certificate.{AreDistinct};
-ghost use Rattle.fb_obstacles.specs.Watched.{AreBounded};
+ghost use Rattle.fb_obstacles.specs.Watched.{AreBounded, has_bound};
 ghost use Rattle.fb_obstacles.specs.InternalQueue.{is_due};
 ghost use Rattle.fb_obstacles.specs.InternalWatch.{AreDue, Reorders, StaysRight, unqueued};
+ghost use Rattle.fb_obstacles.specs.InternalWatching.{EntersNode, IsFirstNode, KeepsBounds, lowered_bounds, no_node};
 
+use crate::NodeId;
 use crate::edge_hasher::EdgeHasher;
 use crate::queue::{Due, DueTimes};
 use fb_graph::{NoMemory, Scope};
@@ -21,9 +23,11 @@ const FEW: usize = 32;
 /// The edges that were watched since the watch was emptied, with the bound of each.
 type Known = IndexMap<u32, u64, EdgeHasher>;
 
-/// The edges that a search looks at, each once, in any order, with a lower bound of each one's slack. Only `new` takes
-/// memory, and only `new` takes time for each edge of the scope; `clear` takes time for each edge that was watched, another
-/// call that of a few reads and writes. So a watch is made once and serves many searches.
+/// The edges that a search looks at, each once, in any order, with a lower bound of each one's slack, and the minus nodes,
+/// each with a lower bound of twice the value of its top layer. Only `new`, `make_room` and `enter_node` take memory, and only
+/// `new` takes time for each edge of the scope; `clear` takes time for each edge and node that was watched, a call for a node
+/// at most time logarithmic in their number, and another call that of a few reads and writes. So a watch is made once and
+/// serves many searches.
 #[derive(Drop)]
 pub struct Watch {
     /// The watched edges are the first ones, `live` of them; behind them are those that have left, which keep their entries
@@ -34,6 +38,9 @@ pub struct Watch {
     /// The first of the watched edges, this many of them, wait in the queue, each with its value.
     queued: usize,
     queue: DueTimes,
+    /// The growths at which the top layers of minus nodes may be empty at the earliest, counted as those of edges: a minus node
+    /// shrinks by half of what bounds are lowered by. A node that isn't minus any longer leaves when it is the first.
+    nodes: DueTimes,
     edge_count: u32,
     /// By how much all bounds were lowered since the watch was emptied, at most the greatest number.
     lowered: u64,
@@ -45,21 +52,21 @@ impl Model for Watch {
     ghost use Rattle.std.specs.Prelude.{◌-◌, map, take};
     ghost use Rattle.indexmap.specs.IndexMap.{keys, values};
     ghost use Rattle.fb_obstacles.specs.Watched.{Watched, watched_code};
-    ghost use Rattle.fb_obstacles.specs.InternalWatch.{IsKept, IsQueued};
+    ghost use Rattle.fb_obstacles.specs.InternalWatch.{IsKept, IsQueued, node_bounds};
 
     ghost Value = { Watched };
 
     ghost coded = { watched_code };
 
-    ghost view = { λ w. record { edge_count = w.edge_count; edges = take w.live (keys w.known); bounds = map (λ b. b - w.lowered) (take w.live (values w.known)); queued = w.queued } };
+    ghost view = { λ w. record { edge_count = w.edge_count; edges = take w.live (keys w.known); bounds = map (λ b. b - w.lowered) (take w.live (values w.known)); queued = w.queued; nodes = node_bounds w.nodes w.lowered } };
 
     ghost invariant = { λ w. IsKept w.known w.live w.edge_count × IsQueued w.known w.live w.queued w.queue };
 }
 
 impl Watch {
-    /// Watches no edge, with room for every edge of the scope.
+    /// Watches no edge and no node, with room for every edge of the scope.
     pub fn new<S: Scope>(alloc: Global, scope: &S) -> Result<Watch, NoMemory>
-        ensures { IfOk result (λ w. w ≡ record { edge_count = length (S.problem scope.now).edges; edges = []; bounds = []; queued = 0 }) }
+        ensures { IfOk result (λ w. w ≡ record { edge_count = length (S.problem scope.now).edges; edges = []; bounds = []; queued = 0; nodes = [] }) }
     {
         let edge_count = scope.edge_count();
         // With a group of the table for each eight edges no group overflows.
@@ -70,6 +77,7 @@ impl Watch {
             live: 0,
             queued: 0,
             queue: DueTimes::new(alloc),
+            nodes: DueTimes::new(alloc),
             edge_count,
             lowered: 0,
             limiting: None,
@@ -108,6 +116,7 @@ impl Watch {
     pub fn enter(&mut self, edge: u32)
         requires { edge < self.old.edge_count }
         ensures count { self.new.edge_count ≡ self.old.edge_count }
+        ensures nodes { self.new.nodes ≡ self.old.nodes }
         ensures edges { (e : ℕ) → is_in self.new.edges e ≡ (is_in self.old.edges e || (e == edge)) }
         ensures bounds { StaysRight (λ e. (e == edge) ≡ false) self.old self.new }
     {
@@ -140,6 +149,7 @@ impl Watch {
     fn forget(&mut self, place: usize)
         requires { place < length self.old.edges }
         ensures count { self.new.edge_count ≡ self.old.edge_count }
+        ensures nodes { self.new.nodes ≡ self.old.nodes }
         ensures edges { (e : ℕ) → is_in self.new.edges e ≡ is_in self.old.edges e }
         ensures bounds { StaysRight (λ e. (e == get_or self.old.edges place 0) ≡ false) self.old self.new }
     {
@@ -151,6 +161,7 @@ impl Watch {
     /// Watches the edge no longer.
     pub fn leave(&mut self, edge: u32)
         ensures count { self.new.edge_count ≡ self.old.edge_count }
+        ensures nodes { self.new.nodes ≡ self.old.nodes }
         ensures edges { (e : ℕ) → is_in self.new.edges e ≡ (is_in self.old.edges e && not (e == edge)) }
         ensures len { length self.new.edges + as_count (is_in self.old.edges edge) ≡ length self.old.edges }
         ensures bounds { (limit : ℕ → ℕ) → AreBounded limit self.old → AreBounded limit self.new }
@@ -164,6 +175,7 @@ impl Watch {
     fn leave_at(&mut self, place: usize)
         requires { place < length self.old.edges }
         ensures count { self.new.edge_count ≡ self.old.edge_count }
+        ensures nodes { self.new.nodes ≡ self.old.nodes }
         ensures edges { (e : ℕ) → is_in self.new.edges e ≡ (is_in self.old.edges e && not (e == get_or self.old.edges place 0)) }
         ensures len { length self.new.edges + 1 ≡ length self.old.edges }
         ensures bounds { (limit : ℕ → ℕ) → AreBounded limit self.old → AreBounded limit self.new }
@@ -204,27 +216,29 @@ impl Watch {
     pub(crate) fn take_out(&mut self, place: usize)
         requires within { place < length self.old.edges }
         requires queued { self.old.queued ≤ place }
-        ensures { self.new ≡ record { edge_count = self.old.edge_count; edges = swap_remove self.old.edges place 0; bounds = swap_remove self.old.bounds place 0; queued = self.old.queued } }
+        ensures { self.new ≡ record { edge_count = self.old.edge_count; edges = swap_remove self.old.edges place 0; bounds = swap_remove self.old.bounds place 0; queued = self.old.queued; nodes = self.old.nodes } }
     {
         self.live -= 1;
         exchange(&mut self.known, place, self.live);
     }
 
-    /// Watches no edge any longer.
+    /// Watches no edge and no node any longer.
     pub fn clear(&mut self)
-        ensures { self.new ≡ record { edge_count = self.old.edge_count; edges = []; bounds = []; queued = 0 } }
+        ensures { self.new ≡ record { edge_count = self.old.edge_count; edges = []; bounds = []; queued = 0; nodes = [] } }
     {
         self.known.truncate(0);
         self.live = 0;
         self.queued = 0;
         self.queue.clear();
+        self.nodes.clear();
         self.lowered = 0;
     }
 
-    /// Each slack may have fallen by this much.
+    /// Each slack, and twice the value of each top layer, may have fallen by this much.
     pub fn lower(&mut self, length: u64)
-        ensures { self.new ≡ record self.old { bounds = map (λ b. b - length) self.old.bounds } }
+        ensures { self.new ≡ record self.old { bounds = map (λ b. b - length) self.old.bounds; nodes = lowered_bounds length self.old.nodes } }
     {
+        self.nodes.keeps();
         self.lowered = self.lowered.saturating_add(length);
     }
 
@@ -339,10 +353,70 @@ impl Watch {
             return;
         }
         let edge = self.known.keys().as_slice()[place];
-        if self.queue.push(growth, edge) {
+        if self.queue.push(growth, u64::from(edge)) {
             exchange(&mut self.known, place, self.queued);
             self.queued += 1;
         }
+    }
+
+    /// Watches the node from now on, which has a top layer of this value and becomes minus. Takes memory for it.
+    pub fn enter_node(&mut self, node: NodeId, value: u64) -> Result<(), NoMemory>
+        ensures { OnOk result (EntersNode node (2 * value) self.old self.new) }
+    {
+        self.nodes.add(growth_after(self.lowered, value), node)?;
+        Ok(())
+    }
+
+    /// The watched node whose top layer may be empty first.
+    pub(crate) fn first_node(&self) -> Option<NodeId>
+        ensures none { IfNone result (self.now.nodes ≡ []) }
+        ensures first { IfSome result (IsFirstNode self.now.nodes) }
+    {
+        let first = self.nodes.first()?;
+        Some(first.number)
+    }
+
+    /// Watches the node whose top layer may be empty first no longer.
+    pub(crate) fn drop_first_node(&mut self)
+        ensures same { self.new ≡ record self.old { nodes = self.new.nodes } }
+        ensures kept { (name : ℕ) → IsFirstNode self.old.nodes name → KeepsBounds name self.old.nodes self.new.nodes }
+    {
+        self.nodes.drop_first();
+    }
+
+    /// Whether no top layer is empty before that of the first node, which has this value now. If another one may be, the bound
+    /// of the first node is raised to what it is.
+    pub(crate) fn settle_first_node(&mut self, value: u64) -> bool
+        ensures same { self.new ≡ record self.old { nodes = self.new.nodes } }
+        ensures settled { result ≡ true → (self.new ≡ self.old)
+            × ((name limit : ℕ) → has_bound self.old.nodes name limit ≡ true → 2 * value ≤ limit) }
+        ensures raised { result ≡ false → (name : ℕ) → IsFirstNode self.old.nodes name
+            → KeepsBounds name self.old.nodes self.new.nodes × (has_bound self.new.nodes name (2 * value) ≡ true) }
+    {
+        let Some(first) = self.nodes.first() else {
+            return false;
+        };
+        let growth = growth_after(self.lowered, value);
+        if growth <= first.growth && growth < u64::MAX {
+            return true;
+        }
+        self.nodes.postpone_first(growth);
+        false
+    }
+
+    /// The number of watched nodes.
+    pub(crate) fn node_count(&self) -> usize
+        ensures { result ≡ length self.now.nodes }
+    {
+        self.nodes.len()
+    }
+
+    /// The watched node at a place.
+    pub(crate) fn node_at(&self, place: usize) -> NodeId
+        requires { place < length self.now.nodes }
+        ensures { result ≡ (get_or self.now.nodes place no_node).name }
+    {
+        self.nodes.number_at(place)
     }
 
     /// The edge limits the step.
@@ -427,14 +501,26 @@ fn exchange(known: &mut Known, one: usize, other: usize)
     }
 }
 
+/// The edge that is due.
+fn edge_of(due: Due) -> Option<u32>
+    ensures { MatchOption result (2 ^ 32 ≤ due.number) (λ edge. edge ≡ due.number) }
+{
+    match u32::try_from(due.number) {
+        Ok(edge) => Some(edge),
+        Err(_) => None,
+    }
+}
+
 /// The place of the edge that is due, if it waits in the queue with this growth.
 fn place_due(known: &Known, queued: usize, due: Due) -> Option<usize>
-    requires { queued ≤ index_map_len known.now }
+    requires within { queued ≤ index_map_len known.now }
+    requires small { All (λ e. e < 2 ^ 32) (keys known.now) }
     ensures { MatchOption result
-        ((i : ℕ) → i < queued → get_or (keys known.now) i 0 ≡ due.edge → get_or (values known.now) i 0 ≡ due.growth → ⊥)
-        (λ place. (place < queued) × ((i : ℕ) → i < queued → get_or (keys known.now) i 0 ≡ due.edge → i ≡ place)) }
+        ((i : ℕ) → i < queued → get_or (keys known.now) i 0 ≡ due.number → get_or (values known.now) i 0 ≡ due.growth → ⊥)
+        (λ place. (place < queued) × ((i : ℕ) → i < queued → get_or (keys known.now) i 0 ≡ due.number → i ≡ place)) }
 {
-    match known.get_index_of(&due.edge) {
+    let edge = edge_of(due)?;
+    match known.get_index_of(&edge) {
         Some(place) => {
             if place < queued && known[place] == due.growth {
                 Some(place)
@@ -455,6 +541,7 @@ fn pop_waiting(
     limit: Option<u64>,
 ) -> Option<usize>
     requires within { queued ≤ index_map_len known.now }
+    requires small { All (λ e. e < 2 ^ 32) (keys known.now) }
     requires due { AreDue queue.old (values known.now) (keys known.now) queued }
     ensures some { IfSome result (λ place. (place < queued)
         × ((i : ℕ) → i < queued → (i ≡ place → ⊥) → is_due queue.new (get_or (values known.now) i 0) (get_or (keys known.now) i 0) ≡ true)) }
@@ -468,4 +555,12 @@ fn pop_waiting(
         }
     }
     None
+}
+
+/// The growth at which a top layer of this value is empty if its node is minus all the time, or the greatest number.
+fn growth_after(lowered: u64, value: u64) -> u64
+    ensures most { result ≤ 2 * value + lowered }
+    ensures exact { result < 2 ^ 64 - 1 → result ≡ 2 * value + lowered }
+{
+    value.saturating_mul(2).saturating_add(lowered)
 }

@@ -1,5 +1,5 @@
 -- A search whose tree has taken in a node that it has met and this node's mate keeps what every search keeps.
-use Rattle.std.proofs.Common.{ℕ, ◌≡◌, ◌≢◌, ◌<◌, true, false, All, List, [], ◌∷◌, ◌++◌, map, unwrap_or, refl, sym, ap, subst, ◌∙◌}
+use Rattle.std.proofs.Common.{ℕ, ◌≡◌, ◌≢◌, ◌*◌, ◌<◌, true, false, All, List, [], ◌∷◌, ◌++◌, map, unwrap_or, refl, sym, ap, subst, ◌∙◌}
 use Rattle.std.specs.List.Sorted.{IsPermutation}
 use Rattle.std.specs.Option.{is_some}
 use Rattle.std.proofs.lemmas.List.Sorted.{IsPermutation-append_left, IsPermutation-append_right, IsPermutation-cons, IsPermutation-map, IsPermutation-middle, IsPermutation-sym, IsPermutation-trans}
@@ -20,14 +20,17 @@ use Rattle.fb_half.specs.declared.matches.Match.{Match}
 use Rattle.fb_half.specs.Matchings.{match_links, matched_names}
 use Rattle.fb_half.specs.Parts.{AreLinksOf}
 use Rattle.fb_half.specs.Translations.{entry_by, link_by, link_of, ring_links}
-use Rattle.fb_obstacles.specs.Watched.{Watched}
+use Rattle.fb_regions.specs.Moves.{node_named}
+use Rattle.fb_obstacles.specs.Obstacles.{IsWatched, slack_at}
+use Rattle.fb_obstacles.specs.Watched.{AreBounded, Watched}
 use Rattle.fb_trees.specs.Rooted.{attached_grown, is_node}
 use Rattle.fb_trees.proofs.Mapped.{plus_moved}
 use Rattle.fb_search.specs.declared.attaching.Met.{Met}
 use Rattle.fb_search.specs.InternalMeetings.{HasMet, IsCouple, rematched_search}
 use Rattle.fb_search.specs.InternalProgress.{GoesOn}
-use Rattle.fb_search.specs.InternalSearching.{IsSearching, IsSearchingBeside, SearchValue, problem_of, relinked_search, searched_links, state_at}
-use Rattle.fb_obstacles.specs.InternalWatching.{Watches}
+use Rattle.fb_search.specs.InternalSearching.{IsSearching, IsSearchingBeside, SearchValue, problem_of, relinked_search, roles_in, searched_links, state_at}
+use Rattle.fb_obstacles.specs.InternalWatching.{EntersNode, Watches}
+use Rattle.fb_search.proofs.MinusBounds.{minus_attached}
 use Rattle.fb_search.proofs.AttachedBranches.{bounded_attached, less_attached, watch_attached}
 use Rattle.fb_search.proofs.AttachedMatches.{matching_attached}
 use Rattle.fb_search.proofs.Linked.{links_reordered}
@@ -104,10 +107,12 @@ module _ (w : SearchValue) (met : Met) (now : SearchValue) (h : HasMet w met now
         (is_in-right (met.link ∷ grown_links w.tree.branches) (met.taken.link ∷ paired_links w.tree.branches) met.taken.link
         (is_in-head met.taken.link (paired_links w.tree.branches)))
 
-    module _ (limits : IsWithinLimits (problem_of w)) (new : Watched) where
-      rematched_searching : All (λ j. j < new.edge_count) new.edges → Watches (problem_of w) (top_at w.part.nodes mate) w.watched new
+    module _ (limits : IsWithinLimits (problem_of w)) (between new : Watched) where
+      rematched_searching : All (λ j. j < new.edge_count) new.edges
+          → EntersNode met.other (2 * (node_named w.part.nodes met.other).top.value) w.watched between
+          → Watches (problem_of w) (top_at w.part.nodes mate) between new
           → IsSearching (with_branch (branch_met met mate) new (rematched_search now.part.links now.part.matching.matches w))
-      rematched_searching within watched = record {
+      rematched_searching within enters watched = record {
         job = h.was.job;
         slot = h.was.slot;
         node = h.was.node;
@@ -124,15 +129,21 @@ module _ (w : SearchValue) (met : Met) (now : SearchValue) (h : HasMet w met now
             (nodes_along w.tree.branches) h.matches
             (names_taken (met.link ∷ []) made_search made met.taken now.part.matching.matches h.matches) refl
             (couple_names met.taken met.other mate couple) made.matching;
-        room = watched.room ∙ h.was.room;
+        room = watched.room ∙ (ap (λ s. s.edge_count) enters.same ∙ h.was.room);
         watch =
             watch_attached (problem_of w) w.tree (branch_met met mate) w.part.nodes limits
-            h.was.state.1.search.nest.dual.names w.watched new
-            (subst (λ n. All (λ j. j < n) new.edges) (watched.room ∙ h.was.room) within) watched h.was.watch;
+            h.was.state.1.search.nest.dual.names between new
+            (subst (λ n. All (λ j. j < n) new.edges) (watched.room ∙ (ap (λ s. s.edge_count) enters.same ∙ h.was.room)) within) watched
+            (subst (λ es. IsWatched (problem_of w) (roles_in w) w.part.nodes es) (sym (ap (λ s. s.edges) enters.same)) h.was.watch);
         bounds =
             bounded_attached (problem_of w) w.tree (branch_met met mate) w.part.nodes limits
-            h.was.state.1.search.nest.dual.names w.watched new
-            (subst (λ n. All (λ j. j < n) new.edges) (watched.room ∙ h.was.room) within) watched h.was.watch h.was.bounds;
+            h.was.state.1.search.nest.dual.names between new
+            (subst (λ n. All (λ j. j < n) new.edges) (watched.room ∙ (ap (λ s. s.edge_count) enters.same ∙ h.was.room)) within) watched
+            (subst (λ es. IsWatched (problem_of w) (roles_in w) w.part.nodes es) (sym (ap (λ s. s.edges) enters.same)) h.was.watch)
+            (subst (AreBounded (slack_at (problem_of w) (roles_in w) w.part.nodes)) (sym enters.same) h.was.bounds);
+        minus =
+            minus_attached w.tree (branch_met met mate) w.part.nodes w.watched between new
+            h.was.state.1.search.nest.dual.names enters watched.minus h.was.minus;
       }
 
       rematched_goes_on : GoesOn w (with_branch (branch_met met mate) new (rematched_search now.part.links now.part.matching.matches w))
@@ -147,18 +158,20 @@ module _ (w : SearchValue) (met : Met) (now : SearchValue) (h : HasMet w met now
       }
 
     -- The same of the search that has met the node.
-    pub attached_searching : IsWithinLimits (problem_of now) → (new : Watched) → All (λ j. j < new.edge_count) new.edges
-        → Watches (problem_of now) (top_at now.part.nodes mate) now.watched new
+    pub attached_searching : IsWithinLimits (problem_of now) → (between new : Watched) → All (λ j. j < new.edge_count) new.edges
+        → EntersNode met.other (2 * (node_named now.part.nodes met.other).top.value) now.watched between
+        → Watches (problem_of now) (top_at now.part.nodes mate) between new
         → IsSearching (with_branch (branch_met met mate) new now)
-    attached_searching limits new within watched =
+    attached_searching limits between new within enters watched =
         subst (λ s. IsSearching (with_branch (branch_met met mate) new s)) (sym h.is)
-        (rematched_searching (subst (λ s. IsWithinLimits (problem_of s)) h.is limits) new within
-        (subst (λ s. Watches (problem_of s) (top_at s.part.nodes mate) s.watched new) h.is watched))
+        (rematched_searching (subst (λ s. IsWithinLimits (problem_of s)) h.is limits) between new within
+        (subst (λ s. EntersNode met.other (2 * (node_named s.part.nodes met.other).top.value) s.watched between) h.is enters)
+        (subst (λ s. Watches (problem_of s) (top_at s.part.nodes mate) between new) h.is watched))
 
     pub attached_goes_on : IsWithinLimits (problem_of now) → (new : Watched) → GoesOn w (with_branch (branch_met met mate) new now)
     attached_goes_on limits new =
         subst (λ s. GoesOn w (with_branch (branch_met met mate) new s)) (sym h.is)
-        (rematched_goes_on (subst (λ s. IsWithinLimits (problem_of s)) h.is limits) new)
+        (rematched_goes_on (subst (λ s. IsWithinLimits (problem_of s)) h.is limits) new new)
 
     listed : (is_in (matched_names w.part.matching.matches) met.other ≡ true)
         × (is_in (matched_names w.part.matching.matches) mate ≡ true)
@@ -172,6 +185,9 @@ module _ (w : SearchValue) (met : Met) (now : SearchValue) (h : HasMet w met now
 
     pub mate_live : is_live now.part.nodes mate ≡ true
     mate_live = ap (λ s. is_live s.part.nodes mate) h.is ∙ matched_live [] w h.was mate listed.1
+
+    pub other_live : is_live now.part.nodes met.other ≡ true
+    other_live = ap (λ s. is_live s.part.nodes met.other) h.is ∙ matched_live [] w h.was met.other listed.0
 
     pub mate_differs : met.other ≢ mate
     mate_differs = couple_differs [] w h.was met.taken now.part.matching.matches h.matches met.other mate couple

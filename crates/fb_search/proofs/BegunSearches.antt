@@ -15,6 +15,7 @@ use Rattle.fb_obstacles.specs.Obstacles.{grows, slack_at}
 use Rattle.fb_regions.specs.declared.roles.Role.TheVariants.{Plus, Minus, Out}
 use Rattle.fb_plan.specs.Plans.{PlanTree, problem_at}
 use Rattle.fb_search.specs.InternalSearching.{IsSearching, SearchValue, roles_in}
+use Rattle.fb_search.proofs.MinusBounds.{minus_begun}
 use Rattle.fb_search.proofs.KeptBounds.{touched_first, touched_second}
 use Rattle.fb_obstacles.specs.InternalWatching.{Watches}
 
@@ -70,6 +71,7 @@ begun_searching root part old new are limits within below room empty watched = r
     near = λ k less over apart. near k less over;
   };
   bounds = watched.bounds slack slack (λ k away. le_refl (slack k)) (λ i less. none i less);
+  minus = minus_begun root part.nodes new;
 }
   where
     slack : ℕ → ℕ
@@ -100,7 +102,7 @@ pub kept_watches : (part : PartValue) (g : DecodingGraph) (t : PlanTree) (n : �
 kept_watches part g t n vs old new eg watches =
     let w : Watches (problem_at (graph_in part) t n no_shot) vs old new =
     subst (λ h. Watches (problem_at h t n no_shot) vs old new) eg watches in
-    record { room = w.room; kept = w.kept; near = w.near; bounds = w.bounds }
+    record { room = w.room; minus = w.minus; kept = w.kept; near = w.near; bounds = w.bounds }
 
 pub same_scope : (g h : DecodingGraph) (t s : PlanTree) (n m : ℕ) → g ≡ h → t ≡ s → n ≡ m
     → problem_at g t n no_shot ≡ problem_at h s m no_shot

@@ -33,7 +33,7 @@ use Rattle.fb_half.specs.Values.{IsScopeOf}
 use Rattle.fb_obstacles.specs.Watched.{Watched}
 use Rattle.fb_search.specs.InternalClosings.{Closes, IsReplacedBy, WatchesMinus}
 use Rattle.fb_search.specs.InternalProgress.{GoesOn}
-use Rattle.fb_search.specs.InternalSearching.{IsSearching, SearchValue, problem_of, state_at}
+use Rattle.fb_search.specs.InternalSearching.{IsSearching, SearchValue, problem_of, roles_in, state_at}
 use Rattle.fb_search.proofs.Agreed.{agreed_joined, nodes_of}
 use Rattle.fb_search.proofs.BegunSearches.{kept_limits}
 use Rattle.fb_search.proofs.ClosedCycles.{many_replaced, may_close, root_unlisted, steps_join}
@@ -44,6 +44,9 @@ use Rattle.fb_search.proofs.JoinLinks.{links_closed}
 use Rattle.fb_search.proofs.JoinMatchings.{matching_closed}
 use Rattle.fb_search.proofs.JoinStates.{less_after, state_after}
 use Rattle.fb_search.proofs.KeptNodes.{beside_joined}
+use Rattle.fb_search.proofs.MinusBounds.{minus_before, minus_joined}
+use Rattle.fb_search.proofs.MinusNodes.{listed_live, minus_listed}
+use Rattle.fb_search.proofs.RolesInTree.{minus_in_tree}
 use Rattle.fb_search.proofs.ScopeWalks.{scoped}
 use Rattle.fb_search.proofs.TakenNames.{without_taken}
 
@@ -132,6 +135,12 @@ module _ (w : SearchValue) (a b closing : ℕ) (closes : Closes w a b closing) (
         cycle_within (problem_of w) s w.part.links w.tree.branches refl name a b closing is.shared is.up is.down may
         is.paths closes.search.state.1
 
+    -- a minus node was minus before
+    were_minus : (n : ℕ) → (roles_in after).is_minus n ≡ true → (roles_in w).is_minus n ≡ true
+    were_minus n minus =
+        minus_listed w closes.search.state.0 closes.search.state.1 n
+        (minus_before (is_in cycle) name w.tree.branches n (minus_in_tree after.tree n minus))
+
     closed_kept : IsSearching after
     closed_kept = record {
       job = closes.search.job;
@@ -161,6 +170,12 @@ module _ (w : SearchValue) (a b closing : ℕ) (closes : Closes w a b closing) (
           closes.search.state.1.search.nest.dual.names closes.search.state.1.search.nest.dual.apart
           state.search.nest.dual.apart made may_join in_tree watches
           (height (problem_of w) w.part.nodes name cycle may_join closes.search.state.1.search.nest) closes.search.bounds;
+      minus =
+          minus_joined (roles_in w) (roles_in after) name cycle w.part.nodes w.watched watched watches.minus were_minus
+          (λ minus.
+          both_ways (is_live w.part.nodes name) new_name
+          (listed_live w closes.search.state.0 closes.search.state.1 name (minus_in_tree w.tree name minus)))
+          closes.search.minus;
     }
 
     others_kept : (n : ℕ) → is_in (names_without after.tree.root matching.unmatched) n

@@ -52,6 +52,7 @@ IsAway p nodes tree names k =
 pub minus_first : (p : Problem) (nodes : List Node) (tree : Grown) (w : Watched) → WatchesMinus p nodes tree [] w w
 minus_first p nodes tree w = record {
   room = refl;
+  minus = refl;
   kept = λ k h. h;
   near = λ name v k mem minus held less touch. absurd (false≢true mem);
   bounds = λ first last each right.
@@ -64,6 +65,7 @@ pub minus_on : (p : Problem) (nodes : List Node) (tree : Grown) (names : List �
     → WatchesMinus p nodes tree (take (i + 1) names) a c
 minus_on p nodes tree names i a b c lt before more = record {
   room = more.room ∙ before.room;
+  minus = more.minus ∙ before.minus;
   kept = λ k h. more.kept k (before.kept k h);
   near = λ name v k mem minus held less touch. by name v k minus held less touch (is_in-take_more names i name lt mem);
   bounds = bounds;
@@ -106,6 +108,7 @@ pub minus_past : (p : Problem) (nodes : List Node) (tree : Grown) (names : List 
     → WatchesMinus p nodes tree (take (i + 1) names) a b
 minus_past p nodes tree names i a b lt other before = record {
   room = before.room;
+  minus = before.minus;
   kept = before.kept;
   near = λ name v k mem minus held less touch. by name v k minus held less touch (is_in-take_more names i name lt mem);
   bounds = λ first last each right.
@@ -346,4 +349,4 @@ pub watches_minus : (part : PartValue) (g : DecodingGraph) (t : PlanTree) (n : �
 watches_minus part g t n nodes tree names old new eg watches =
     let w : WatchesMinus (problem_at (graph_in part) t n no_shot) nodes tree names old new =
     subst (λ h. WatchesMinus (problem_at h t n no_shot) nodes tree names old new) eg watches in
-    record { room = w.room; kept = w.kept; near = w.near; bounds = w.bounds }
+    record { room = w.room; minus = w.minus; kept = w.kept; near = w.near; bounds = w.bounds }

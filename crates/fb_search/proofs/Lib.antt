@@ -26,6 +26,7 @@ pub mod EndedTrees
 pub mod EndedWays
 pub mod EndsUnder
 pub mod EnteredChildren
+pub mod EnteredWays
 pub mod ExchangedObstacles
 pub mod FreeSteps
 pub mod JoinConditions
@@ -43,6 +44,8 @@ pub mod Matched
 pub mod MetMatches
 pub mod MetOutside
 pub mod MetPairs
+pub mod MinusBounds
+pub mod MinusNodes
 pub mod NearAround
 pub mod NearEdges
 pub mod NearGrowth

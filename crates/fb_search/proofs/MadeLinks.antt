@@ -77,6 +77,7 @@ searching_relinked w some more new are stays links = record {
   room = are.room;
   watch = are.watch;
   bounds = are.bounds;
+  minus = are.minus;
 }
   where
     tree : List ℕ

@@ -17,6 +17,7 @@ use Rattle.fb_search.specs.InternalNear.{IsNear, IsNearBoundary, IsNearPair, alo
 use Rattle.fb_search.specs.InternalProgress.{stepped_by}
 use Rattle.fb_search.specs.InternalSearching.{IsSearching, SearchValue}
 use Rattle.fb_search.proofs.DissolvedStates.{even_dissolved}
+use Rattle.fb_search.proofs.MinusBounds.{minus_begun}
 use Rattle.fb_search.proofs.SearchRoles.{no_odd_closed}
 use Rattle.fb_search.proofs.SteppedSearches.{searching_stepped}
 
@@ -30,6 +31,7 @@ bare_search root part = record {
     edges = filter (λ k. true) (range_with_len 0 (length (problem_in part).edges));
     bounds = [];
     queued = 0;
+    nodes = [];
   };
 }
 
@@ -49,6 +51,7 @@ searching_bare root part are within = record {
     near = λ k less over apart. is_in-filter-range (λ k. true) (length (problem_in part).edges) k less;
   };
   bounds = λ i less. omega arith;
+  minus = minus_begun root part.nodes (bare_search root part).watched;
 }
 
 -- the part with a node grown

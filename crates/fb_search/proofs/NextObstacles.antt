@@ -9,9 +9,8 @@ use Rattle.fb_graph.specs.Dual.{is_live, leaves}
 use Rattle.fb_graph.specs.Steps.{Roles}
 use Rattle.fb_graph.specs.Covers.{AreRoles}
 use Rattle.fb_graph.proofs.ClosedSets.{part_has_no_odd_closed}
-use Rattle.fb_graph.proofs.Sets.{All-from_is_in}
 use Rattle.fb_laws.specs.Lengths.{HasPlus}
-use Rattle.fb_laws.specs.Trees.{minus_names, plus_names, roles_of}
+use Rattle.fb_laws.specs.Trees.{plus_names, roles_of}
 use Rattle.fb_laws.proofs.JoinedThree.{root_plus}
 use Rattle.fb_laws.proofs.SearchTrees.{cover_place, plus_in_tree}
 use Rattle.fb_plan.specs.Plans.{PlanTree, problem_at}
@@ -19,11 +18,12 @@ use Rattle.fb_trees.proofs.Mapped as mapped
 use Rattle.fb_half.specs.Parts.{graph_in, solved_shot}
 use Rattle.fb_half.specs.Translations.{link_by}
 use Rattle.fb_obstacles.specs.declared.obstacle.Obstacle.{Obstacle}
-use Rattle.fb_obstacles.specs.Obstacles.{HavePlusParity, IsObstacle, IsWatched, ListsMinus, Obstructs, slack_at}
+use Rattle.fb_obstacles.specs.Obstacles.{AreMinusBounded, AreMinusLive, HavePlusParity, IsObstacle, IsWatched, Obstructs, slack_at}
 use Rattle.fb_obstacles.specs.Watched.{AreBounded, Watched}
 use Rattle.fb_search.specs.InternalProgress.{rewatched_search}
 use Rattle.fb_search.specs.InternalSearching.{IsSearching, SearchValue, problem_of, roles_in}
 use Rattle.fb_search.proofs.ExchangedObstacles.{obstacle_exchanged, obstructs_exchanged}
+use Rattle.fb_search.proofs.RolesInTree.{minus_in_tree}
 use Rattle.fb_search.proofs.Runs.{tree_roles}
 use Rattle.fb_search.proofs.SearchRoles.{linked_tree, minus_live, no_odd_closed, roles_in_tree}
 
@@ -48,12 +48,8 @@ module _ (w : SearchValue) (are : IsSearching w) where
   pub next_roles : AreRoles (roles_in w) w.part.nodes
   next_roles = by_names (λ roles. AreRoles roles w.part.nodes) (tree_roles w are)
 
-  pub next_minus : ListsMinus (roles_in w) w.part.nodes (minus_names w.tree.branches)
-  next_minus =
-      by_names (λ roles. ListsMinus roles w.part.nodes (minus_names w.tree.branches)) (record {
-        every = λ i d less minus. minus;
-        only = All-from_is_in (λ name. (is_live w.part.nodes name ≡ true) × (is_in (minus_names w.tree.branches) name ≡ true)) (minus_names w.tree.branches) (λ name minus. (minus_live w are name minus, minus));
-      })
+  pub next_live : AreMinusLive (roles_in w) w.part.nodes
+  next_live name minus = minus_live w are name (minus_in_tree w.tree name minus)
 
   pub next_parity : HavePlusParity (roles_in w) w.part.nodes
   next_parity =
@@ -107,8 +103,10 @@ module _ (w : SearchValue) (are : IsSearching w) where
     -- the search with a watch that is right, of the same edges or of others
     pub searching_rewatched : (now : Watched) → now.edge_count ≡ w.watched.edge_count
         → IsWatched (problem_at g t n no_shot) (roles_in w) w.part.nodes now.edges
-        → AreBounded (slack_at (problem_at g t n no_shot) (roles_in w) w.part.nodes) now → IsSearching (rewatched_search now w)
-    searching_rewatched now room watched bounded = record {
+        → AreBounded (slack_at (problem_at g t n no_shot) (roles_in w) w.part.nodes) now
+        → AreMinusBounded (roles_in w) w.part.nodes now → IsSearching (rewatched_search now w)
+    searching_rewatched now room watched bounded minus = record {
+      minus = minus;
       job = are.job;
       slot = are.slot;
       node = are.node;

@@ -22,7 +22,7 @@ use Rattle.fb_half.specs.Translations.{children_at, link_by, ring_at, ring_links
 use Rattle.fb_half.specs.declared.matches.Match.{Match}
 use Rattle.fb_laws.specs.StateMoves.{relayered_state}
 use Rattle.fb_laws.specs.TreeCycles.{nodes_along}
-use Rattle.fb_obstacles.specs.Obstacles.{IsWatched, slack_at}
+use Rattle.fb_obstacles.specs.Obstacles.{AreMinusBounded, IsWatched, slack_at}
 use Rattle.fb_obstacles.specs.Watched.{AreBounded, Watched}
 use Rattle.fb_search.specs.InternalSearching.{IsSearching, SearchValue, problem_of, roles_in, state_at}
 use Rattle.fb_graph.proofs.Nodes.{All-right}
@@ -111,8 +111,9 @@ pub searching_relayered : (w : SearchValue) (f : Node → Node) (watched : Watch
     → watched.edge_count ≡ w.watched.edge_count
     → IsWatched (problem_of w) (roles_in w) (map f w.part.nodes) watched.edges
     → AreBounded (slack_at (problem_of w) (roles_in w) (map f w.part.nodes)) watched
+    → AreMinusBounded (roles_in w) (map f w.part.nodes) watched
     → IsSearching (relayered_by f watched w)
-searching_relayered w f watched are kept alike state room watch bounds = record {
+searching_relayered w f watched are kept alike state room watch bounds minus = record {
   job = are.job;
   slot = are.slot;
   node = are.node;
@@ -130,4 +131,5 @@ searching_relayered w f watched are kept alike state room watch bounds = record 
   room = room ∙ are.room;
   watch = watch;
   bounds = bounds;
+  minus = minus;
 }

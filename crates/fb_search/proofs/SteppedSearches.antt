@@ -25,12 +25,13 @@ use Rattle.fb_trees.proofs.Mapped.{plus_moved}
 use Rattle.fb_half.specs.Matchings.{IsMatchOf, match_links}
 use Rattle.fb_half.specs.Parts.{AreLinksOf, graph_in}
 use Rattle.fb_half.specs.Translations.{entry_by, link_by}
-use Rattle.fb_obstacles.specs.Obstacles.{IsWatched, slack_at}
+use Rattle.fb_obstacles.specs.Obstacles.{AreMinusBounded, IsWatched, slack_at}
 use Rattle.fb_obstacles.specs.Watched.{AreBounded}
 use Rattle.fb_plan.specs.Plans.{PlanTree, problem_at}
 use Rattle.fb_trees.specs.InternalSteps.{IsTreeOver}
 use Rattle.fb_search.specs.InternalProgress.{lowered_by, stepped_by}
 use Rattle.fb_search.specs.InternalSearching.{IsSearching, SearchValue, problem_of, roles_in, state_at}
+use Rattle.fb_search.proofs.MinusBounds.{minus_stepped}
 use Rattle.fb_search.proofs.KeptBounds.{bounded_stepped}
 use Rattle.fb_search.proofs.Relayered.{agreed_relayered, ring_relayered}
 use Rattle.fb_search.proofs.Runs.{roles_by_numbers, tree_roles}
@@ -125,6 +126,10 @@ searching_stepped w k are limits may =
           (bounded_stepped roles w.part.nodes k are.state.1.search.nest.dual.apart (tree_roles w are) may.tops (problem_of w)
           w.watched
           (subst (λ r. AreBounded (slack_at (problem_of w) r w.part.nodes) w.watched) (roles_in_tree w are) are.bounds));
+      minus =
+          subst (λ r. AreMinusBounded r (stepped_nodes roles k w.part.nodes) (lowered_by k w.watched)) (sym (roles_in_tree w are))
+          (minus_stepped roles k w.part.nodes w.watched (lowered_by k w.watched) (tree_roles w are).exclusive may.tops refl
+          (subst (λ r. AreMinusBounded r w.part.nodes w.watched) (roles_in_tree w are) are.minus));
     }
 
 -- what is below a potential after a step that raises it

@@ -35,7 +35,8 @@ use Rattle.fb_search.proofs.KeptBounds.{slack_beside}
 use Rattle.fb_search.proofs.KeptNodes.{beside_taller}
 use Rattle.fb_search.proofs.Relayered.{relayered_by, searching_relayered}
 use Rattle.fb_search.proofs.Runs.{roles_by_numbers}
-use Rattle.fb_search.proofs.RolesInTree.{plus_in_tree}
+use Rattle.fb_search.proofs.MinusBounds.{minus_changed}
+use Rattle.fb_search.proofs.RolesInTree.{not_both, plus_in_tree}
 
 pub plus_over : (test : ℕ → Bool) (nodes : List Node) (u : ℕ) → is_covered_by test nodes u ≡ true
     → (name : ℕ) × (cover_of nodes u ≡ Some name) × (test name ≡ true)
@@ -106,9 +107,9 @@ may_take w k u v name is covered = record {
 }
 
 pub searching_raised : (w : SearchValue) (k u v name : ℕ) (new : Watched) → IsSearching w → IsWithinLimits (problem_of w)
-    → MayAbsorb (problem_of w) w.part.nodes name k u v → All (λ j. j < new.edge_count) new.edges
+    → MayAbsorb (problem_of w) w.part.nodes name k u v → (roles_in w).is_plus name ≡ true → All (λ j. j < new.edge_count) new.edges
     → WatchesTaken (problem_of w) (absorbed_nodes name v w.part.nodes) v w.watched new → IsSearching (raised name v new w)
-searching_raised w k u v name new are limits may within watched =
+searching_raised w k u v name new are limits may plus within watched =
     let alike = (taller_alike w.part.nodes name v (no_leaf (problem_of w) w.part.nodes v are.state.1.search.nest.dual may.uncovered)).0 in
     searching_relayered w (change name (taller_node v)) new are
     (kept_by name (taller_node v) w.part.nodes (λ n. refl) (λ n. refl) (λ n a e. first_taller v n) outer) alike
@@ -119,6 +120,8 @@ searching_raised w k u v name new are limits may within watched =
       near = near_taken (problem_of w) (roles_in w) w.part.nodes name v limits w.watched new watched are.watch;
     })
     (bounded_taken (problem_of w) (roles_in w) w.part.nodes name v limits w.watched new watched are.watch alike.heights are.bounds)
+    (minus_changed (roles_in w) name (taller_node v) w.part.nodes w.watched new watched.minus (λ n. refl)
+    (λ i d less same minus. absurd (not_both _ plus minus)) are.minus)
   where
     outer : is_outer w.part.nodes name ≡ true
     outer =
@@ -194,4 +197,4 @@ pub kept_taken : (part : PartValue) (g : DecodingGraph) (t : PlanTree) (n taken 
 kept_taken part g t n taken v now later nodes old new eg at same is watches =
     let w : WatchesTaken (problem_at (graph_in part) t n no_shot) nodes v old new =
     subst (λ h. WatchesTaken (problem_at h t n no_shot) nodes v old new) eg (rw (← at, ← is, ← same) watches) in
-    record { room = w.room; watched = w.watched; bounds = w.bounds }
+    record { room = w.room; minus = w.minus; watched = w.watched; bounds = w.bounds }

@@ -1,5 +1,5 @@
 -- A minus node's empty layer taken off keeps what every search keeps, and leaves less to do.
-use Rattle.std.proofs.Common.{ℕ, ◌≡◌, ◌==◌, ◌<◌, ◌⊎◌, inl, inr, ◌||◌, Bool, true, false, List, [], ◌∷◌, ◌++◌, length, All, Option, Some, None, refl, sym, ap, ◌∙◌, subst, if◌then◌else◌}
+use Rattle.std.proofs.Common.{ℕ, ◌≡◌, ◌==◌, ◌<◌, ◌⊎◌, inl, inr, ◌||◌, Bool, true, false, List, [], ◌∷◌, ◌++◌, length, All, Option, Some, None, refl, sym, ap, ◌∙◌, subst, if◌then◌else◌, arith}
 use Rattle.std.specs.List.{last_or}
 use Rattle.std.proofs.lemmas.Bool.{cases_Bool, false≢true, eqb-true, ne_eqb}
 use Rattle.fb_graph.specs.Parity.{is_in}
@@ -33,6 +33,7 @@ use Rattle.fb_obstacles.proofs.TopLayers.{top_real}
 use Rattle.fb_regions.proofs.Listed.{last_push}
 use Rattle.fb_search.specs.InternalProgress.{GoesOn}
 use Rattle.fb_search.specs.InternalSearching.{IsSearching, SearchValue, problem_of, roles_in, state_at}
+use Rattle.fb_search.proofs.MinusBounds.{minus_changed}
 use Rattle.fb_search.proofs.KeptBounds.{slack_beside}
 use Rattle.fb_search.proofs.KeptNodes.{beside_lower}
 use Rattle.fb_search.proofs.Relayered.{relayered_by, searching_relayered}
@@ -195,6 +196,8 @@ searching_lowered w name last new are minus may is within taken =
     (bounded_freed (roles_in w) lower name last (λ n. not_both _) minus given.live given.outer given.free (problem_of w)
     w.watched new taken (subst (λ ns. (u : ℕ) → height_of (all_cuts lower) u ≡ height_of (all_cuts ns) u) (sym given.back) alike.heights)
     (subst (λ ns. AreBounded (slack_at (problem_of w) (roles_in w) ns) w.watched) (sym given.back) are.bounds))
+    (minus_changed (roles_in w) name without_top w.part.nodes w.watched new taken.minus (λ n. refl)
+    (λ i d less same minus. omega (arith, (may.bare i d less same).1)) are.minus)
 
 pub goes_on_lowered : (w : SearchValue) (name : ℕ) (new : Watched) → IsSearching w → (roles_in w).is_minus name ≡ true
     → MayUncover w.part.nodes name → GoesOn w (lowered name new w)

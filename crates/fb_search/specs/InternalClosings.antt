@@ -32,6 +32,7 @@ IsClosedBy w closing steps = (a b : ℕ) × Closes w a b closing × IsCycle w.tr
 -- The edges at each minus node among these are watched, and all that were watched before. The bounds of other edges stay right.
 pub record WatchesMinus (p : Problem) (nodes : List Node) (tree : Grown) (names : List ℕ) (old new : Watched) : Type 0 where
   pub room : new.edge_count ≡ old.edge_count
+  pub minus : new.nodes ≡ old.nodes
   pub kept : (k : ℕ) → is_in old.edges k ≡ true → is_in new.edges k ≡ true
   pub near : (name v k : ℕ) → is_in names name ≡ true → role_in tree name ≡ Minus → is_in (top_at nodes name) v ≡ true
       → k < length p.edges → touches v (edge_at p.edges k) ≡ true → is_in new.edges k ≡ true

@@ -8,6 +8,7 @@ use Rattle.fb_laws.specs.Trees.{roles_of}
 use Rattle.fb_laws.specs.Works.{names_without}
 use Rattle.fb_half.specs.Parts.{PartValue}
 use Rattle.fb_trees.specs.Rooted.{bare}
+use Rattle.fb_obstacles.specs.InternalWatching.{lowered_bounds}
 use Rattle.fb_obstacles.specs.Watched.{Watched}
 use Rattle.fb_search.specs.InternalSearching.{SearchValue, problem_of, unmatched_in}
 use Rattle.fb_search.specs.Progress.{AreKept, IsSamePart, IsSearched}
@@ -37,9 +38,9 @@ pub record HasAdvanced (before after : SearchValue) : Type 0 where
   pub count : length (unmatched_in after) ≡ length (unmatched_in before)
   pub less : IsLower (to_do after true) (to_do before true)
 
--- the watched edges after a step of this length: no slack falls by more than twice as much
+-- the watch after a step of this length: no slack falls by more than twice as much, nor twice the value of a top layer
 abbrev pub lowered_by : ℕ → Watched → Watched
-lowered_by k watched = record watched { bounds = map (λ b. b - 2 * k) watched.bounds }
+lowered_by k watched = record watched { bounds = map (λ b. b - 2 * k) watched.bounds; nodes = lowered_bounds (2 * k) watched.nodes }
 
 -- the search after a step of this length
 abbrev pub stepped_by : ℕ → SearchValue → SearchValue

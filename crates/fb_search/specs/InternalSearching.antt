@@ -14,7 +14,7 @@ use Rattle.fb_half.specs.Values.{part_of}
 use Rattle.fb_half.specs.Translations.{cycles_by, entry_by, link_by}
 use Rattle.fb_trees.specs.Branches.{Grown}
 use Rattle.fb_trees.specs.Rooted.{role_in}
-use Rattle.fb_obstacles.specs.Obstacles.{IsWatched, roles_by, slack_at}
+use Rattle.fb_obstacles.specs.Obstacles.{AreMinusBounded, IsWatched, roles_by, slack_at}
 use Rattle.fb_obstacles.specs.Watched.{AreBounded, Watched}
 use Rattle.fb_search.specs.declared.searching.Pieces.{Pieces}
 
@@ -22,7 +22,7 @@ pub record SearchValue : Type 0 where
   -- its matches are those of nodes outside the tree; the root is one of its unmatched nodes
   pub part : PartValue
   pub tree : Grown
-  -- the edges that the search looks at
+  -- the edges and minus nodes that the search looks at
   pub watched : Watched
 
 abbrev pub problem_of : SearchValue → Problem
@@ -66,6 +66,7 @@ pub record IsSearchingBeside (more : List ℕ) (w : SearchValue) : Type 0 where
   pub watch : IsWatched (problem_of w) (roles_in w) w.part.nodes w.watched.edges
   -- no bound is above the slack of its edge
   pub bounds : AreBounded (slack_at (problem_of w) (roles_in w) w.part.nodes) w.watched
+  pub minus : AreMinusBounded (roles_in w) w.part.nodes w.watched
 
 -- what every search keeps between its steps
 abbrev pub IsSearching : SearchValue → Type 0

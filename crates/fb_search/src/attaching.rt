@@ -17,7 +17,7 @@ use crate::searching::{Pieces, Searching};
 use fb_graph::{NoMemory, Scope};
 use fb_half::both::both;
 use fb_half::{Match, Work};
-use fb_obstacles::watch_node;
+use fb_obstacles::{enter_minus, watch_node};
 use fb_regions::NodeId;
 use fb_trees::{CycleStep, LinkId, link_between};
 use std::alloc::Global;
@@ -141,6 +141,7 @@ fn add_couple(
         link: met.taken.link,
     };
     tree.attach(alloc, met.plus, met.link, met.other, matched, &parts.links)?;
+    enter_minus(watch, &parts.regions, met.other)?;
     watch_node(watch, scope, &parts.regions, mate);
     watch.keeps();
     Ok(())

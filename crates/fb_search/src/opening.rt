@@ -1,10 +1,13 @@
-ghost use Rattle.std.specs.Prelude.{◌≡◌, ◌<◌, ℕ, true, false, ◌∷◌, IfOk, OnOk, length};
+ghost use Rattle.std.specs.Prelude.{◌≡◌, ◌<◌, ℕ, true, false, ◌∷◌, All, IfOk, OnOk, length};
+ghost use Rattle.fb_graph.specs.Dual.{is_live};
+ghost use Rattle.fb_regions.specs.declared.roles.Role.TheVariants.{Minus};
+ghost use Rattle.fb_trees.specs.Rooted.{role_in};
 ghost use Rattle.fb_graph.specs.Parity.{is_in};
 ghost use Rattle.fb_blossoms.specs.Nodes.{IsOuter, defects_at, is_on};
 ghost use Rattle.fb_half.specs.Values.{HasScope, part_of};
 ghost use Rattle.fb_obstacles.specs.Obstacles.{Obstructs};
 ghost use Rattle.fb_obstacles.specs.declared.obstacle.Obstacle.TheVariants.{BlossomEmpty};
-ghost use Rattle.fb_search.specs.InternalOpenings.{EndsAtChild, MayEnter, between_on, couples_on, even_on, links_left, place_on, rest_on, round_on, turned_on, way_on};
+ghost use Rattle.fb_search.specs.InternalOpenings.{EndsAtChild, EntersWay, MayEnter, between_on, couples_on, even_on, links_left, place_on, rest_on, round_on, turned_on, way_on};
 ghost use Rattle.fb_search.specs.InternalPieces.{AreSearching};
 ghost use Rattle.fb_search.specs.InternalProgress.{GoesOn};
 ghost use Rattle.fb_search.specs.InternalSearching.{IsSearching, problem_of, roles_in, search_of};
@@ -15,9 +18,9 @@ use crate::searching::{Pieces, Searching};
 use fb_blossoms::Blossoms;
 use fb_graph::{NoMemory, Scope};
 use fb_half::{Match, Parts};
-use fb_obstacles::watch_node;
-use fb_regions::NodeId;
-use fb_trees::{CycleStep, LinkId};
+use fb_obstacles::{Watch, enter_minus, watch_node};
+use fb_regions::{NodeId, Regions, Role};
+use fb_trees::{CycleStep, LinkId, Tree};
 use std::alloc::Global;
 
 impl<'a> Searching<'a> {
@@ -57,7 +60,28 @@ fn open_node(alloc: Global, pieces: &mut Pieces<'_>, node: NodeId) -> Result<(),
     let apart = taken_apart(alloc, &cycle, above, below)?;
     tree.replace(alloc, &[node], &apart.way, &parts.links)?;
     forget_all(&mut parts.links, &apart.left);
+    enter_way(watch, &parts.regions, tree, &apart.way)?;
     add_matches(alloc, &mut parts.matching, &apart.matches)
+}
+
+/// Watches the minus nodes among those of the steps.
+fn enter_way<S: Scope>(
+    watch: &mut Watch,
+    regions: &Regions<S>,
+    tree: &Tree,
+    steps: &[CycleStep],
+) -> Result<(), NoMemory>
+    requires { All (λ s. role_in tree.now s.node ≡ Minus → is_live regions.now.nodes s.node ≡ true) steps.now }
+    ensures { OnOk result (EntersWay regions.now.nodes tree.now steps.now watch.old watch.new) }
+{
+    for step in steps {
+        match tree.role(step.node) {
+            Role::Minus => enter_minus(watch, regions, step.node)?,
+            Role::Plus => continue,
+            Role::Out => continue,
+        }
+    }
+    Ok(())
 }
 
 /// The child of the blossom at which the link ends.

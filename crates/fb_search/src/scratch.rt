@@ -27,9 +27,9 @@ impl Model for Scratch {
 }
 
 impl Scratch {
-    /// Watches no edge, with room for every edge of the scope.
+    /// Watches no edge and no node, with room for every edge of the scope.
     pub fn new<S: Scope>(alloc: Global, scope: &S) -> Result<Scratch, NoMemory>
-        ensures { IfOk result (λ s. s ≡ record { edge_count = length (S.problem scope.now).edges; edges = []; bounds = []; queued = 0 }) }
+        ensures { IfOk result (λ s. s ≡ record { edge_count = length (S.problem scope.now).edges; edges = []; bounds = []; queued = 0; nodes = [] }) }
     {
         let watch = Watch::new(alloc, scope)?;
         let tree = Tree::start(alloc, 0)?;

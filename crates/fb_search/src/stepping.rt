@@ -9,7 +9,7 @@ use fb_trees::step_nodes;
 
 impl Searching<'_> {
     /// Each minus node shrinks by this length, and then each plus node grows by it. The bounds fall by twice as much: the
-    /// slack of an edge falls by at most that.
+    /// slack of an edge falls by at most that, and twice the value of a minus node by just that.
     pub(crate) fn step(&mut self, length: u64)
         requires { MayStep (problem_of self.old) (roles_in self.old) self.old.part.nodes length }
         ensures { self.new ≡ stepped_by length self.old }

@@ -7,6 +7,7 @@ pub loop-at-init : goal.loop-at-init
 loop-at-init g c = record {
   scanned = λ names minus. scanned_none _ _ _ names _ c.requires.seen c.len-place.result _ c.len-place.ensures c.keeps.ensures.queued
       c.requires.bounded minus;
+  nodes = refl;
   never_falls = omega arith;
   counted = omega (arith, c.len-place.ensures);
 }
@@ -16,6 +17,7 @@ loop-at-preserved-then-fits_within g c = record {
   scanned = λ names minus.
       scanned_passed _ _ _ names _ c.requires.seen _ _ _ _ _ _ (c.loop-at.invariant.scanned names minus) c.in-Some.ensures.next refl
       c.bound_at.result c.bound_at.ensures (sym c.fits_within.ensures ∙ c.if-fits_within.true);
+  nodes = c.in-Some.ensures.next.same.nodes ∙ c.loop-at.invariant.nodes;
   never_falls = omega (arith, c.loop-at.invariant.never_falls);
   counted = omega (arith, c.loop-at.invariant.counted, c.in-Some.ensures.next.before);
 }
@@ -31,6 +33,7 @@ loop-at-preserved-in_default-look_between g c = record {
       scanned_left _ _ _ names _ c.requires.seen _ _ _ _ _ _ (c.loop-at.invariant.scanned names minus) c.in-Some.ensures.next
       (ap (λ xs. get_or xs c.in-Some.at 0) c.edges.ensures) c.take_out.new.self c.keeps-in-Some.ensures.distinct
       c.keeps-in-Some.ensures.bounds c.in_default-look_between.ensures.look c.take_out.ensures;
+  nodes = ap (λ w. w.nodes) c.take_out.ensures ∙ (c.in-Some.ensures.next.same.nodes ∙ c.loop-at.invariant.nodes);
   never_falls = omega (arith, c.loop-at.invariant.never_falls);
   counted = omega (arith, c.loop-at.invariant.counted, c.in-Some.ensures.next.before);
 }
@@ -53,6 +56,8 @@ loop-at-preserved g c = record {
       (get_or c.set_bound.new.self.bounds c.in-Some.at 0) c.bound.result c.in-Some-look_between.look c.with_look-least.result
       c.in-Some-look_between.ensures.look c.bound.ensures c.set_bound.ensures.most
       (c.with_look-least.ensures.same ∙ c.set_bound.ensures.rest) c.with_look-least.ensures.both;
+  nodes = ap (λ w. w.nodes) (c.with_look-least.ensures.same ∙ c.set_bound.ensures.rest)
+      ∙ (c.in-Some.ensures.next.same.nodes ∙ c.loop-at.invariant.nodes);
   never_falls = omega (arith, c.loop-at.invariant.never_falls);
   counted = omega (arith, c.loop-at.invariant.counted, c.in-Some.ensures.next.before);
 }
@@ -72,3 +77,11 @@ next_place-requires-clause-queued g c = (c.loop-at.invariant.scanned c.requires.
 
 pub next_place-requires-clause-within : goal.next_place-requires-clause-within
 next_place-requires-clause-within g c = (c.loop-at.invariant.scanned c.requires.minus.0 c.requires.minus.1).within
+
+pub returns-in-Blocked-clause-nodes : goal.returns-in-Blocked-clause-nodes
+returns-in-Blocked-clause-nodes g c =
+    ap (λ w. w.nodes) (c.with_look-least.ensures.same ∙ c.set_bound.ensures.rest)
+    ∙ (c.in-Some.ensures.next.same.nodes ∙ c.loop-at.invariant.nodes)
+
+pub returns-clause-nodes : goal.returns-clause-nodes
+returns-clause-nodes g c = ap (λ w. w.nodes) c.in_default.ensures.unchanged ∙ c.loop-at.invariant.nodes

@@ -1,10 +1,9 @@
-use Rattle.std.proofs.Common.{take, All}
-use Rattle.fb_graph.specs.Problem.{Problem}
-use Rattle.fb_obstacles.specs.Obstacles.{Obstructs, roles_by}
-use Rattle.fb_obstacles.specs.InternalLooks.{BearsShrinking, Limits}
+use Rattle.std.proofs.Common.{◌≡◌}
+use Rattle.fb_obstacles.specs.Obstacles.{AreMinusBounded, roles_by}
 use Rattle.fb_obstacles.proofs.shrinking.look_at_minus.Given as goal
 
-abbrev pub invariant-loop-place : goal.invariant-loop-place
-invariant-loop-place g l =
-    (p : Problem) → Limits (λ j. All (BearsShrinking l.regions.nodes j) (take l.place (g.R.MinusNodes.minus_names l.roles)))
-    (Obstructs p (roles_by (g.R.Roles.role_of l.roles)) l.regions.nodes) l.least
+abbrev pub invariant-loop : goal.invariant-loop
+invariant-loop g l = record {
+  bounded : AreMinusBounded (roles_by (g.R.Roles.role_of l.roles)) l.regions.nodes l.watch;
+  same : l.watch ≡ record l.initial.watch { nodes = l.watch.nodes };
+}

@@ -8,19 +8,19 @@ use Rattle.fb_obstacles.proofs.watching.place_due.Goals.{else-place-queued-via-t
 
 pub returns-then-index-due : goal.returns-then-index-due
 returns-then-index-due c =
-    let found = found_at (keys c.args.known.now) c.args.due.edge c.in-Some.place c.in-Some.ensures.index in (
+    let found = found_at (keys c.args.known.now) c.in_ok-edge.edge c.in-Some.place c.in-Some.ensures.index in (
       c.if-place-queued.true,
       λ i less here.
           one_place (keys c.args.known.now) i c.in-Some.place c.in-Some.ensures.unique
-          (omega (arith, less, c.requires, length-keys c.args.known.now.entries)) found.1 (here ∙ sym found.2),
+          (omega (arith, less, c.requires.within, length-keys c.args.known.now.entries)) found.1 (here ∙ (sym c.in_ok-edge.ensures ∙ sym found.2)),
     )
 
 pub returns-else-place-queued : goal.returns-else-place-queued
 returns-else-place-queued c i less here value =
-    let found = found_at (keys c.args.known.now) c.args.due.edge c.in-Some.place c.in-Some.ensures.index in
+    let found = found_at (keys c.args.known.now) c.in_ok-edge.edge c.in-Some.place c.in-Some.ensures.index in
     let same : i ≡ c.in-Some.place =
     one_place (keys c.args.known.now) i c.in-Some.place c.in-Some.ensures.unique
-    (omega (arith, less, c.requires, length-keys c.args.known.now.entries)) found.1 (here ∙ sym found.2) in
+    (omega (arith, less, c.requires.within, length-keys c.args.known.now.entries)) found.1 (here ∙ (sym c.in_ok-edge.ensures ∙ sym found.2)) in
     elim c.else-place-queued.branch [
       | else-place-queued-via-then-place-queued+else-index-due w ↦
           w.if-index-due.false
@@ -32,5 +32,5 @@ returns-else-place-queued c i less here value =
 
 pub returns-in-None : goal.returns-in-None
 returns-in-None c i less here value =
-    nowhere (keys c.args.known.now) c.args.due.edge c.in-None.ensures.index i
-    (omega (arith, less, c.requires, length-keys c.args.known.now.entries)) here
+    nowhere (keys c.args.known.now) c.in_ok-edge.edge c.in-None.ensures.index i
+    (omega (arith, less, c.requires.within, length-keys c.args.known.now.entries)) (here ∙ sym c.in_ok-edge.ensures)

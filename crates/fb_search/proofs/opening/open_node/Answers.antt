@@ -7,18 +7,22 @@ use Rattle.fb_blossoms.specs.Nodes.{is_on}
 use Rattle.fb_plan.specs.declared.scope.NodeScope.{NodeScope}
 use Rattle.fb_plan.specs.Scopes.{scope_graph}
 use Rattle.fb_half.specs.Matchings.{listed_names, matched_names}
+use Rattle.fb_graph.specs.Dual.{is_live}
+use Rattle.fb_graph.specs.Moves.{split_nodes}
+use Rattle.fb_regions.specs.declared.roles.Role.TheVariants.{Minus}
 use Rattle.fb_trees.specs.Branches.{entry_of}
+use Rattle.fb_trees.specs.Rooted.{role_in}
 use Rattle.fb_trees.specs.Replacements.{AreLinkedOn, IsOpened, MayOpen}
 use Rattle.fb_search.specs.InternalEndings.{Forgets}
-use Rattle.fb_search.specs.InternalOpenings.{couples_on, even_on, links_left, rest_on, round_on, way_on}
+use Rattle.fb_search.specs.InternalOpenings.{EntersWay, couples_on, even_on, links_left, rest_on, round_on, way_on}
 use Rattle.fb_search.specs.InternalSearching.{SearchValue, search_of}
 use Rattle.fb_search.proofs.Agreed.{cycle_there, outer_in_store}
 use Rattle.fb_search.proofs.BegunSearches.{kept_limits, kept_watches}
 use Rattle.fb_search.proofs.BranchEnds.{enters_above, enters_below, opens_by}
 use Rattle.fb_search.proofs.OpenedConditions.{couples_fresh, left_distinct, left_live, way_linked, way_opens}
 use Rattle.fb_search.proofs.OpenedMatchings.{opened_listed}
-use Rattle.fb_search.proofs.OpenedSearches.{goes_on_opened, searching_opened}
-use Rattle.fb_search.proofs.Openings.{HasOpened, Opens}
+use Rattle.fb_search.proofs.OpenedSearches.{goes_on_opened, searching_opened, way_live}
+use Rattle.fb_search.proofs.Openings.{HasOpened, Opens, round_in}
 use Rattle.fb_search.proofs.opening.open_node.Goals as goal
 
 pub child_at-above-requires : goal.child_at-above-requires
@@ -98,7 +102,7 @@ add_matches-requires c =
     let cycle = c.deref.ensures.value ∙ c.open_up-cycle.ensures.cycle in
     let parts = λ (cycle : List CycleStep). even_on (round_on cycle c.child_at-above.result) c.child_at-below.result in
     subst (λ ms. AreDistinct (listed_names w.part.matching ++ matched_names ms))
-    (sym (c.deref-4.ensures.value ∙ c.in_ok-apart.ensures.matches
+    (sym (c.deref-5.ensures.value ∙ c.in_ok-apart.ensures.matches
     ∙ ap (λ l. couples_on (rest_on (parts l) c.child_at-below.result)) cycle))
     (couples_fresh w c.args.node e c.child_at-above.result c.child_at-below.result c.requires.search opens)
 
@@ -137,6 +141,36 @@ watch_node-requires-clause-room c =
     c.requires.search.room
     ∙ sym (ap (λ g. length g.edges) (ap scope_graph c.scope.ensures ∙ c.requires.scope.graph))
 
+pub enter_way-requires : goal.enter_way-requires
+enter_way-requires c =
+    let w : SearchValue = search_of c.args.pieces.now in
+    let e = entry_of c.branch-branch.result in
+    let opens : Opens w c.args.node e c.child_at-above.result c.child_at-below.result =
+    opens_by w c.args.node e c.child_at-above.result c.child_at-below.result c.requires.search c.requires.empty.1
+    c.branch-branch.ensures c.child_at-above.ensures c.child_at-below.ensures in
+    let cycle = c.deref.ensures.value ∙ c.open_up-cycle.ensures.cycle in
+    let parts = λ (cycle : List CycleStep). even_on (round_on cycle c.child_at-above.result) c.child_at-below.result in
+    let way = c.in_ok-apart.ensures.way
+    ∙ ap (λ l. way_on (parts l) c.child_at-below.result) cycle in
+    let watches = rw c.scope.ensures at c.watch_node.ensures in
+    let has : HasOpened w c.args.node c.child_at-above.result c.child_at-below.result c.forget_all.new.links
+    c.open_up-cycle.new.self c.replace.new.self c.watch_node.new.watch = record {
+      taken_off = c.open_up-cycle.ensures.rest;
+      grown = subst (λ l. IsOpened w.tree c.args.node l c.replace.new.self) (c.deref-2.ensures.value ∙ way)
+          c.in_ok-replace.ensures.ok;
+      forgets = subst (λ l. Forgets l w.part.links c.forget_all.new.links)
+          (c.deref-3.ensures.value ∙ c.in_ok-apart.ensures.left
+          ∙ ap (λ l. links_left (parts l) c.child_at-below.result) cycle) c.forget_all.ensures;
+      within = c.keeps.ensures.within;
+      watches = kept_watches w.part (scope_graph c.args.pieces.now.parts.regions.scope) c.args.pieces.now.parts.regions.scope.plan.now
+          c.args.pieces.now.parts.regions.scope.node _ w.watched c.watch_node.new.watch c.requires.scope.graph watches;
+    } in
+    rw c.in_ok-split_node.ensures.ok
+    (subst (All (λ s. role_in c.replace.new.self s.node ≡ Minus → is_live (split_nodes c.args.node w.part.nodes) s.node ≡ true))
+    (sym (c.deref-4.ensures.value ∙ way))
+    (way_live w c.args.node e c.child_at-above.result c.child_at-below.result c.requires.search opens
+    c.forget_all.new.links c.open_up-cycle.new.self c.replace.new.self c.watch_node.new.watch has))
+
 pub returns : goal.returns
 returns c =
     let w : SearchValue = search_of c.args.pieces.now in
@@ -148,7 +182,7 @@ returns c =
     let parts = λ (cycle : List CycleStep). even_on (round_on cycle c.child_at-above.result) c.child_at-below.result in
     let way = c.in_ok-apart.ensures.way
     ∙ ap (λ l. way_on (parts l) c.child_at-below.result) cycle in
-    let matches = c.deref-4.ensures.value ∙ c.in_ok-apart.ensures.matches
+    let matches = c.deref-5.ensures.value ∙ c.in_ok-apart.ensures.matches
     ∙ ap (λ l. couples_on (rest_on (parts l) c.child_at-below.result)) cycle in
     let watches = rw c.scope.ensures at c.watch_node.ensures in
     let has : HasOpened w c.args.node c.child_at-above.result c.child_at-below.result c.forget_all.new.links
@@ -163,6 +197,13 @@ returns c =
       watches = kept_watches w.part (scope_graph c.args.pieces.now.parts.regions.scope) c.args.pieces.now.parts.regions.scope.plan.now
           c.args.pieces.now.parts.regions.scope.node _ w.watched c.watch_node.new.watch c.requires.scope.graph watches;
     } in
+    let enters : EntersWay (split_nodes c.args.node w.part.nodes) c.replace.new.self
+    (way_on (round_in w.part c.args.node c.child_at-above.result c.child_at-below.result) c.child_at-below.result)
+    c.watch_node.new.watch c.enter_way.new.watch =
+    subst
+    (λ steps.
+    EntersWay (split_nodes c.args.node w.part.nodes) c.replace.new.self steps c.watch_node.new.watch c.enter_way.new.watch)
+    (c.deref-4.ensures.value ∙ way) (rw c.in_ok-split_node.ensures.ok at c.in_ok-enter_way.ensures) in
     let scope = c.requires.scope in
     let limits = kept_limits w.part (scope_graph c.scope.result.now) c.scope.result.now.plan.now c.scope.result.now.node
     (ap scope_graph c.scope.ensures ∙ scope.graph)
@@ -172,7 +213,7 @@ returns c =
     (IfOk-weaker _ _ _
     (λ _
     (added : c.add_matches.new.matching
-    ≡ record { matches = w.part.matching.matches ++ c.deref-4.result.now; unmatched = w.part.matching.unmatched }).
+    ≡ record { matches = w.part.matching.matches ++ c.deref-5.result.now; unmatched = w.part.matching.unmatched }).
     rw (added, matches) (record {
       scope = record {
         graph = scope.graph;
@@ -184,7 +225,7 @@ returns c =
             c.forget_all.new.links c.open_up-cycle.new.self c.replace.new.self c.watch_node.new.watch has c.args.pieces.now.parts.seams scope.listed;
       };
       keeps = searching_opened w c.args.node e c.child_at-above.result c.child_at-below.result c.requires.search opens
-          c.forget_all.new.links c.open_up-cycle.new.self c.replace.new.self c.watch_node.new.watch limits has;
+          c.forget_all.new.links c.open_up-cycle.new.self c.replace.new.self c.watch_node.new.watch limits has c.enter_way.new.watch enters;
       goes_on = goes_on_opened w c.args.node e c.child_at-above.result c.child_at-below.result c.requires.search opens
-          c.forget_all.new.links c.open_up-cycle.new.self c.replace.new.self c.watch_node.new.watch has;
+          c.forget_all.new.links c.open_up-cycle.new.self c.replace.new.self c.watch_node.new.watch has c.enter_way.new.watch;
     })) c.add_matches.ensures)

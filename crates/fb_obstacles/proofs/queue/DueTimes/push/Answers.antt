@@ -1,15 +1,13 @@
 use Rattle.std.specs.BinaryHeap.{heap_items}
-use Rattle.fb_obstacles.proofs.DueLists.{pushed_is_due, still_due}
+use Rattle.fb_obstacles.specs.InternalHeap.{due_times}
+use Rattle.fb_obstacles.proofs.DueLists.{put_is_due, put_still_due}
 use Rattle.fb_obstacles.proofs.queue.DueTimes.push.Goals as goal
 
 pub returns-clause-added : goal.returns-clause-added
 returns-clause-added c is =
-    pushed_is_due (record { 0 = record { growth = c.args.growth; came = c.self.inside.came; edge = c.args.edge } })
-    (heap_items c.self.inside.heap) (heap_items c.push.new.self) c.in-Ok.ensures.permutation
+    put_is_due _ (due_times (heap_items c.self.inside.heap)) (due_times (heap_items c.put.new.heap)) c.put.ensures.items
 
 pub returns-clause-kept : goal.returns-clause-kept
 returns-clause-kept c =
     rw (← c.self.view_is)
-    (λ v k is.
-    still_due (record { 0 = record { growth = c.args.growth; came = c.self.inside.came; edge = c.args.edge } })
-    (heap_items c.self.inside.heap) (heap_items c.push.new.self) c.in-Ok.ensures.permutation v k is)
+    (put_still_due _ (due_times (heap_items c.self.inside.heap)) (due_times (heap_items c.put.new.heap)) c.put.ensures.items)

@@ -10,6 +10,7 @@ use Rattle.fb_graph.specs.Parity.{is_in}
 use Rattle.fb_obstacles.proofs.FirstEntries.{among_first, length-keys, length-values}
 use Rattle.fb_obstacles.proofs.QueuedEdges.{due_same, first_kept}
 use Rattle.fb_obstacles.proofs.EnteredEdges.{below_brought, fewer_keys, keys_brought, small_brought, values_brought}
+use Rattle.fb_obstacles.specs.InternalWatch.{node_bounds}
 use Rattle.fb_obstacles.proofs.watching.Watch.place_or_add.Goals as goal
 
 pub place_in-place-requires : goal.place_in-place-requires
@@ -110,7 +111,7 @@ returns c =
     ∙ ap (λ z. map (λ b. b - c.self.inside.lowered) (take c.self.inside.live (values c.self.inside.known)) ++ z ∷ []) nothing) in
     rw (← c.self.view_is) (
       absent,
-      (λ j. record { edge_count = c.self.inside.edge_count; edges = edges j; bounds = bounds j; queued = c.self.inside.queued }),
+      (λ j. record { edge_count = c.self.inside.edge_count; edges = edges j; bounds = bounds j; queued = c.self.inside.queued; nodes = node_bounds c.self.inside.nodes c.self.inside.lowered }),
     )
 
 pub returns-then-place-self : goal.returns-then-place-self
@@ -131,6 +132,7 @@ returns-then-place-self c =
         edges = take c.self.inside.live (keys_of (same j));
         bounds = map (λ b. b - c.self.inside.lowered) (take c.self.inside.live (values_of (same j)));
         queued = c.self.inside.queued;
+        nodes = node_bounds c.self.inside.nodes c.self.inside.lowered;
       }),
       omega (arith, length-take-le c.self.inside.live (keys c.self.inside.known) most, c.if-place-self.true),
       get_or-take c.self.inside.live (keys c.self.inside.known) c.place_in-place.result 0 (omega (arith, c.if-place-self.true))

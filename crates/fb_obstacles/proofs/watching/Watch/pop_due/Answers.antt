@@ -5,6 +5,7 @@ use Rattle.indexmap.specs.IndexMap.{keys, values}
 use Rattle.fb_obstacles.proofs.FirstEntries.{length-keys, length-values}
 use Rattle.fb_obstacles.proofs.QueuedEdges.{bounds_swapped, due_in_next, due_unqueued, edges_swapped, kept_swapped, limit_met}
 use Rattle.fb_obstacles.proofs.RaisedBounds.{lowered_at}
+use Rattle.fb_obstacles.specs.InternalWatch.{node_bounds}
 use Rattle.fb_obstacles.proofs.watching.Watch.pop_due.Goals as goal
 use Rattle.fb_obstacles.proofs.watching.Watch.pop_due.Goals.{in-Some, in-None}
 
@@ -51,6 +52,7 @@ returns-in-Some-pop_waiting-clause-found c is =
             c.self.inside.edge_count c.exchange.ensures.entries c.exchange.ensures.len
             c.exchange.ensures.room first second c.self.invariant.0 c.self.inside.lowered j;
         queued = c.self.inside.queued - 1;
+        nodes = node_bounds c.self.inside.nodes c.self.inside.lowered;
       }),
     )
 

@@ -6,6 +6,7 @@ use Rattle.fb_obstacles.specs.InternalWatch.{Reorders}
 use Rattle.fb_obstacles.specs.Watched.{Watched}
 use Rattle.fb_obstacles.proofs.FirstEntries.{length-keys, length-values}
 use Rattle.fb_obstacles.proofs.QueuedEdges.{bounds_seen, bounds_swapped, due_in_next, due_queued, edges_seen, edges_swapped, kept_swapped, reorders_exchanged}
+use Rattle.fb_obstacles.specs.InternalWatch.{node_bounds}
 use Rattle.fb_obstacles.proofs.watching.Watch.queue_at.Goals as goal
 
 pub invariant_of-self : goal.invariant_of-self
@@ -19,8 +20,8 @@ invariant_of-self c =
     length-values c.self.inside.known.entries ∙ sym (length-keys c.self.inside.known.entries) in
     let most : c.self.inside.live ≤ length (keys c.self.inside.known) =
     omega (arith, c.self.invariant.0.within, length-keys c.self.inside.known.entries) in
-    let edge_is : get_or c.as_slice.result.now c.args.place 0 ≡ get_or (keys c.self.inside.known) c.args.place 0 =
-    ap (λ ks. get_or ks c.args.place 0) (c.as_slice.ensures ∙ c.keys.ensures.rest) in
+    let edge_is : c.from.result ≡ get_or (keys c.self.inside.known) c.args.place 0 =
+    c.from.ensures ∙ ap (λ ks. get_or ks c.args.place 0) (c.as_slice.ensures ∙ c.keys.ensures.rest) in
     let growth_is : c.index-growth.result.now ≡ get_or (values c.self.inside.known) c.args.place 0 =
     ap (λ o. unwrap_or o 0) (sym c.index-growth.ensures) ∙ unwrap_or-slice_get (values c.self.inside.known) c.args.place 0 in
     let here : is_due c.push.new.self (get_or (values c.self.inside.known) c.args.place 0)
@@ -68,6 +69,7 @@ returns-then-push-clause-same c =
           c.self.inside.edge_count c.exchange.ensures.entries c.exchange.ensures.len
           c.exchange.ensures.room first second c.self.invariant.0 c.self.inside.lowered j;
       queued = c.self.inside.queued + 1;
+      nodes = node_bounds c.self.inside.nodes c.self.inside.lowered;
     }))
     (reorders_exchanged _ c.args.place c.self.inside.queued
     (bounds_seen c.self.inside.known c.self.inside.live c.self.inside.edge_count c.self.inside.lowered c.self.invariant.0)

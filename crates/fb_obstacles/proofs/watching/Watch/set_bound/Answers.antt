@@ -9,6 +9,7 @@ use Rattle.fb_obstacles.proofs.EnteredEdges.{values_set_value_at}
 use Rattle.fb_obstacles.proofs.FirstEntries.{length-keys, length-values}
 use Rattle.fb_obstacles.proofs.QueuedEdges.{due_same}
 use Rattle.fb_obstacles.proofs.RaisedBounds.{lowered_set}
+use Rattle.fb_obstacles.specs.InternalWatch.{node_bounds}
 use Rattle.fb_obstacles.proofs.watching.Watch.set_bound.Goals as goal
 
 pub index_mut-requires : goal.index_mut-requires
@@ -77,6 +78,7 @@ returns-clause-rest c =
       bounds = bounds_set_at c.self.inside.known c.self.inside.live c.self.inside.lowered c.args.place
           c.saturating_add.result most less j;
       queued = c.self.inside.queued;
+      nodes = node_bounds c.self.inside.nodes c.self.inside.lowered;
     })
 
 pub invariant_of-self : goal.invariant_of-self

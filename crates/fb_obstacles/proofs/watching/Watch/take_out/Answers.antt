@@ -5,6 +5,7 @@ use Rattle.indexmap.specs.IndexMap.{keys, values}
 use Rattle.indexmap.proofs.ReorderLemmas.{map-swap}
 use Rattle.fb_obstacles.proofs.FirstEntries.{length-keys, length-lowered, length-values, swapped_out}
 use Rattle.fb_obstacles.proofs.QueuedEdges.{due_beside, due_in_next, kept_swapped, keys_swapped, values_swapped}
+use Rattle.fb_obstacles.specs.InternalWatch.{node_bounds}
 use Rattle.fb_obstacles.proofs.watching.Watch.take_out.Goals as goal
 
 pub invariant_of-self : goal.invariant_of-self
@@ -61,4 +62,4 @@ returns c =
     (omega (arith, c.self.invariant.0.within, length-values c.self.inside.known.entries, length-lowered (values c.self.inside.known) c.self.inside.lowered))
     ∙ ap (λ xs. swap_remove xs c.args.place 0) (take-map (λ b. b - c.self.inside.lowered) c.self.inside.live (values c.self.inside.known))))) in
     rw (← c.self.view_is)
-    (λ j. record { edge_count = c.self.inside.edge_count; edges = edges j; bounds = bounds j; queued = c.self.inside.queued })
+    (λ j. record { edge_count = c.self.inside.edge_count; edges = edges j; bounds = bounds j; queued = c.self.inside.queued; nodes = node_bounds c.self.inside.nodes c.self.inside.lowered })

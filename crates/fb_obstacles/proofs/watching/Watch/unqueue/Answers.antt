@@ -2,6 +2,7 @@ use Rattle.std.proofs.Common.{◌≡◌, ◌∙◌, ◌-◌, ◌<◌, length, sy
 use Rattle.indexmap.specs.IndexMap.{keys, values}
 use Rattle.fb_obstacles.proofs.FirstEntries.{length-keys, length-values}
 use Rattle.fb_obstacles.proofs.QueuedEdges.{bounds_swapped, due_in_next, due_unqueued, edges_swapped, kept_swapped}
+use Rattle.fb_obstacles.specs.InternalWatch.{node_bounds}
 use Rattle.fb_obstacles.proofs.watching.Watch.unqueue.Goals as goal
 
 pub invariant_of-self : goal.invariant_of-self
@@ -43,4 +44,5 @@ returns c =
           c.self.inside.edge_count c.exchange.ensures.entries c.exchange.ensures.len
           c.exchange.ensures.room first second c.self.invariant.0 c.self.inside.lowered j;
       queued = c.self.inside.queued - 1;
+      nodes = node_bounds c.self.inside.nodes c.self.inside.lowered;
     })

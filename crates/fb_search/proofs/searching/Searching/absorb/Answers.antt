@@ -47,7 +47,7 @@ invariant_of-self c =
     let at = end_taken w c.args.edge a _ (ap (λ g. g.edges) graph) c.free_end-taken.result c.free_end-taken.ensures in
     rw (c.absorb.ensures, nodes_taken w c.args.edge a _ (ap (λ g. g.edges) scope.graph)) (
       record { graph = scope.graph; plan = scope.plan; node = scope.node; listed = scope.listed; defects = scope.defects },
-      searching_raised w c.args.edge a.from a.to a.name c.watch_taken.new.watch c.self.invariant.1 limits a.may
+      searching_raised w c.args.edge a.from a.to a.name c.watch_taken.new.watch c.self.invariant.1 limits a.may a.plus
           c.keeps.ensures.within
           (kept_taken w.part (scope_graph c.scope.result.now) c.scope.result.now.plan.now c.scope.result.now.node c.free_end-taken.result a.to _ _
           (absorbed_nodes a.name a.to w.part.nodes) w.watched c.watch_taken.new.watch graph at (ap (λ r. r.nodes) c.absorb.ensures)

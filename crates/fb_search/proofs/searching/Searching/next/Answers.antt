@@ -2,7 +2,7 @@ use Rattle.std.proofs.Common.{◌∙◌, ap, sym}
 use Rattle.fb_plan.specs.Scopes.{scope_graph}
 use Rattle.fb_half.specs.Values.{part_of}
 use Rattle.fb_search.specs.InternalSearching.{SearchValue}
-use Rattle.fb_search.proofs.NextObstacles.{next_bounded, next_even, next_is, next_minus, next_parity, next_plus, next_roles, next_watched, searching_rewatched}
+use Rattle.fb_search.proofs.NextObstacles.{next_bounded, next_even, next_is, next_live, next_parity, next_plus, next_roles, next_watched, searching_rewatched}
 use Rattle.fb_search.proofs.searching.Searching.next.Goals as goal
 
 pub next_obstacle-requires : goal.next_obstacle-requires
@@ -16,7 +16,8 @@ next_obstacle-requires g c =
       same = sym c.scope.ensures;
       plus = next_plus w c.self.invariant.1;
       roles = next_roles w c.self.invariant.1;
-      minus = next_minus w c.self.invariant.1;
+      live = next_live w c.self.invariant.1;
+      minus = c.self.invariant.1.minus;
       parity = next_parity w c.self.invariant.1;
       even = next_even w c.self.invariant.1 _ _ _ graph plan node;
       watched = next_watched w c.self.invariant.1 _ _ _ graph plan node;
@@ -41,5 +42,5 @@ invariant_of-self g c =
           (ap scope_graph c.scope.ensures ∙ scope.graph) (ap (λ s. s.plan.now) c.scope.ensures ∙ scope.plan)
           (ap (λ s. s.node) c.scope.ensures ∙ scope.node) c.next_obstacle.new.watch
           c.next_obstacle.ensures.left.room
-          c.next_obstacle.ensures.watched c.next_obstacle.ensures.bounded,
+          c.next_obstacle.ensures.watched c.next_obstacle.ensures.bounded c.next_obstacle.ensures.minus,
     )
