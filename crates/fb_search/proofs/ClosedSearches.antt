@@ -20,6 +20,7 @@ use Rattle.fb_laws.specs.Works.{names_without}
 use Rattle.fb_laws.proofs.OpenedBlossoms.{distinct_permuted, same_permuted}
 use Rattle.fb_laws.proofs.StateBlossoms.{unmatched_is_root}
 use Rattle.fb_trees.specs.Branches.{Grown}
+use Rattle.fb_trees.specs.Rooted.{role_in}
 use Rattle.fb_trees.specs.Replacements.{IsReplaced}
 use Rattle.fb_trees.specs.Replacements as replacements
 use Rattle.fb_trees.specs.TreeSteps.{IsCycle}
@@ -36,7 +37,7 @@ use Rattle.fb_search.specs.InternalProgress.{GoesOn}
 use Rattle.fb_search.specs.InternalSearching.{IsSearching, SearchValue, problem_of, roles_in, state_at}
 use Rattle.fb_search.proofs.Agreed.{agreed_joined, nodes_of}
 use Rattle.fb_search.proofs.BegunSearches.{kept_limits}
-use Rattle.fb_search.proofs.ClosedCycles.{many_replaced, may_close, root_unlisted, steps_join}
+use Rattle.fb_search.proofs.ClosedCycles.{many_replaced, may_close, root_unlisted, steps_join, tree_closes}
 use Rattle.fb_search.proofs.ClosedWatches.{bounded_closed, watch_closed, watches_minus}
 use Rattle.fb_search.proofs.Cycles.{cycle_from}
 use Rattle.fb_search.proofs.JoinConditions.{cycle_within, outer_made}
@@ -73,7 +74,7 @@ module _ (w : SearchValue) (a b closing : ℕ) (closes : Closes w a b closing) (
   new_name = closes.search.agreed.live name ∙ ap (λ (o : Option blossoms.Node). is_some o) adds.fresh
 
   may : MayClose (problem_of w) s name a b (link_by w.part.links closing)
-  may = may_close w a b closing closes name new_name
+  may = may_close w.part w.tree closes.search.state.0 a b closing (tree_closes w a b closing closes) name s.rest new_name
 
   module _ (matching : MatchingValue)
       (listed : IsReplacedBy w.tree.root (renamed_name (is_in cycle) name w.tree.root) w.part.matching matching)
@@ -104,7 +105,7 @@ module _ (w : SearchValue) (a b closing : ℕ) (closes : Closes w a b closing) (
         (unmatched_is_root (problem_of w) s closes.search.state.1 n
         (ap (λ ns. is_in ns n) (names_moved (link_by w.part.links) w.tree.root w.tree.branches)
         ∙ cycle_within (problem_of w) s w.part.links w.tree.branches refl name a b closing is.shared is.up is.down may
-        is.paths closes.search.state.1 n on)
+        is.paths s.rest closes.search.state.1.search.nest closes.search.state.1.search.search n on)
         (sym (same_permuted w.part.matching.unmatched (w.tree.root ∷ listed.beside) listed.was n)
         ∙ is_in-tail w.tree.root listed.beside n beside)))
         ∙ beside))
@@ -120,20 +121,20 @@ module _ (w : SearchValue) (a b closing : ℕ) (closes : Closes w a b closing) (
     agreed =
         subst (λ gone. AreAgreed (joined_nodes name gone w.part.nodes) store) is.nodes
         (agreed_joined w.part.nodes w.part.store store name steps closes.search.agreed
-        (steps_join w a b closing closes steps is name new_name) adds)
+        (steps_join w.part w.tree closes.search.state.0 a b closing (tree_closes w a b closing closes) steps is name new_name) adds)
 
     made : is_outer (joined_nodes name cycle w.part.nodes) name ≡ true
     made =
         outer_made (problem_of w) s w.part.links w.tree.branches refl name a b closing is.shared is.up is.down may
-        is.paths closes.search.state.1
+        is.paths s.rest closes.search.state.1.search.nest closes.search.state.1.search.search
 
     may_join : MayJoin w.part.nodes name cycle
-    may_join = subst (MayJoin w.part.nodes name) is.nodes (steps_join w a b closing closes steps is name new_name)
+    may_join = subst (MayJoin w.part.nodes name) is.nodes (steps_join w.part w.tree closes.search.state.0 a b closing (tree_closes w a b closing closes) steps is name new_name)
 
     in_tree : (n : ℕ) → is_in cycle n ≡ true → is_in (tree_names w.tree.root w.tree.branches) n ≡ true
     in_tree =
         cycle_within (problem_of w) s w.part.links w.tree.branches refl name a b closing is.shared is.up is.down may
-        is.paths closes.search.state.1
+        is.paths s.rest closes.search.state.1.search.nest closes.search.state.1.search.search
 
     -- a minus node was minus before
     were_minus : (n : ℕ) → (roles_in after).is_minus n ≡ true → (roles_in w).is_minus n ≡ true
@@ -151,12 +152,12 @@ module _ (w : SearchValue) (a b closing : ℕ) (closes : Closes w a b closing) (
       links =
           links_closed (problem_of w) s w.part.links w.tree.branches refl name a b closing is.shared is.up is.down may
           is.paths
-          closes.search.state.1 w.part.store store steps (match_links w.part.matching.matches) is.nodes is.links adds
+          s.rest closes.search.state.1.search.nest closes.search.state.1.search.search w.part.store store steps (match_links w.part.matching.matches) is.nodes is.links adds
           closes.search.links;
       matching =
           matching_closed (problem_of w) s w.part.links w.tree.branches refl name a b closing is.shared is.up is.down
           may is.paths
-          closes.search.state.1 w.part.matching listed.beside matching.unmatched closes.search.matching listed.was
+          s.rest closes.search.state.1.search.nest closes.search.state.1.search.search w.part.matching listed.beside matching.unmatched closes.search.matching listed.was
           listed.unmatched;
       room = watches.room ∙ closes.search.room;
       watch =
@@ -233,14 +234,14 @@ module _ (w : SearchValue) (a b closing : ℕ) (closes : Closes w a b closing) (
     tree_is : tree ≡ replacements.joined_grown w.tree gone name
     tree_is =
         many_replaced w.tree tree gone (record { node = name; link = link })
-        (subst (λ ns. 3 ≤ length ns) (sym same) (steps_join w a b closing closes steps is name new_name).many.three)
+        (subst (λ ns. 3 ≤ length ns) (sym same) (steps_join w.part w.tree closes.search.state.0 a b closing (tree_closes w a b closing closes) steps is name new_name).many.three)
         replaced
 
     -- the root's name after it isn't listed yet, if it is another one
     pub root_new : tree.root ≢ w.tree.root → is_in (listed_names w.part.matching) tree.root ≡ false
     root_new =
         subst (λ t. t.root ≢ w.tree.root → is_in (listed_names w.part.matching) t.root ≡ false) (sym tree_is)
-        (root_unlisted w a b closing closes name gone new_name)
+        (root_unlisted w.part w.tree closes.search.state.0 a b closing (tree_closes w a b closing closes) name gone new_name)
 
     -- What the search is after it is a search, and less is left to do.
     pub cycle_made : (scope : NodeScope) → IsScopeOf scope w.part → IsWithinLimits (scoped scope)
@@ -260,7 +261,7 @@ module _ (w : SearchValue) (a b closing : ℕ) (closes : Closes w a b closing) (
         (λ listed.
         cycle_closed gone same matching listed watched
         (kept_limits w.part (scope_graph scope) scope.plan.now scope.node own.graph own.plan own.node limits)
-        (watches_minus w.part (scope_graph scope) scope.plan.now scope.node w.part.nodes w.tree gone w.watched watched
+        (watches_minus w.part (scope_graph scope) scope.plan.now scope.node w.part.nodes (role_in w.tree) gone w.watched watched
         own.graph watches)
         below)
         listed

@@ -12,6 +12,7 @@ use Rattle.fb_graph.specs.Moves.{MayJoin, joined_nodes}
 use Rattle.fb_graph.proofs.Among.{among_is_in, among_live, any_among, cover_among, none_among, none_any}
 use Rattle.fb_graph.proofs.Members.{is_in-take_more}
 use Rattle.fb_graph.proofs.Sets.{is_in-cases, is_in-head, is_in-tail}
+use Rattle.fb_regions.specs.declared.roles.Role.{Role}
 use Rattle.fb_regions.specs.declared.roles.Role.TheVariants.{Plus, Minus, Out}
 use Rattle.fb_laws.specs.SearchBlossoms.{joined_tree, outer_branches, renamed_name, renamed_entry}
 use Rattle.fb_laws.specs.Trees.{EntryOf, minus_names, plus_names, tree_names}
@@ -27,7 +28,7 @@ use Rattle.fb_obstacles.proofs.WatchSteps.{bounded_by}
 use Rattle.fb_trees.specs.Branches.{Grown}
 use Rattle.fb_trees.specs.Replacements as replacements
 use Rattle.fb_trees.specs.Rooted.{role_in}
-use Rattle.fb_search.specs.InternalClosings.{WatchesMinus}
+use Rattle.fb_search.specs.InternalClosings.{WatchesMinus, WatchesMinusBy}
 use Rattle.fb_search.proofs.AttachedBranches.{plus_role}
 use Rattle.fb_search.proofs.BegunSearches.{touches_first, touches_second}
 use Rattle.fb_search.proofs.CoversBefore.{cover_before}
@@ -38,19 +39,19 @@ use Rattle.fb_search.proofs.RolesInTree.{minus_in_tree, minus_not_plus, minus_ro
 use Rattle.fb_search.proofs.TakenVertices.{plus_over}
 
 -- all of a list fail a test where no one passes it
-none_in : (test : ℕ → Bool) (xs : List ℕ) → list_any test xs ≡ false → (v : ℕ) → is_in xs v ≡ true → test v ≡ false
+pub none_in : (test : ℕ → Bool) (xs : List ℕ) → list_any test xs ≡ false → (v : ℕ) → is_in xs v ≡ true → test v ≡ false
 none_in test xs none v within =
     let (x, a, e) = any_among (λ u. u == v) xs within in
     ap test (sym (eqb-true x v e)) ∙ none_among test xs none x a
 
 -- the edge has no end at a minus node among these
-abbrev IsAway : Problem → List Node → Grown → List ℕ → ℕ → Type 0
-IsAway p nodes tree names k =
-    (name v : ℕ) → is_in names name ≡ true → role_in tree name ≡ Minus → is_in (top_at nodes name) v ≡ true
+abbrev IsAway : Problem → List Node → (ℕ → Role) → List ℕ → ℕ → Type 0
+IsAway p nodes role names k =
+    (name v : ℕ) → is_in names name ≡ true → role name ≡ Minus → is_in (top_at nodes name) v ≡ true
     → touches v (edge_at p.edges k) ≡ false
 
-pub minus_first : (p : Problem) (nodes : List Node) (tree : Grown) (w : Watched) → WatchesMinus p nodes tree [] w w
-minus_first p nodes tree w = record {
+pub minus_first : (p : Problem) (nodes : List Node) (role : ℕ → Role) (w : Watched) → WatchesMinusBy p nodes role [] w w
+minus_first p nodes role w = record {
   room = refl;
   minus = refl;
   kept = λ k h. h;
@@ -60,10 +61,10 @@ minus_first p nodes tree w = record {
 }
 
 -- the edges at one minus node more
-pub minus_on : (p : Problem) (nodes : List Node) (tree : Grown) (names : List ℕ) (i : ℕ) (a b c : Watched) → i < length names
-    → WatchesMinus p nodes tree (take i names) a b → Watches p (top_at nodes (get_or names i 0)) b c
-    → WatchesMinus p nodes tree (take (i + 1) names) a c
-minus_on p nodes tree names i a b c lt before more = record {
+pub minus_on : (p : Problem) (nodes : List Node) (role : ℕ → Role) (names : List ℕ) (i : ℕ) (a b c : Watched) → i < length names
+    → WatchesMinusBy p nodes role (take i names) a b → Watches p (top_at nodes (get_or names i 0)) b c
+    → WatchesMinusBy p nodes role (take (i + 1) names) a c
+minus_on p nodes role names i a b c lt before more = record {
   room = more.room ∙ before.room;
   minus = more.minus ∙ before.minus;
   kept = λ k h. more.kept k (before.kept k h);
@@ -71,16 +72,16 @@ minus_on p nodes tree names i a b c lt before more = record {
   bounds = bounds;
 }
   where
-    by : (name v k : ℕ) → role_in tree name ≡ Minus → is_in (top_at nodes name) v ≡ true → k < length p.edges
+    by : (name v k : ℕ) → role name ≡ Minus → is_in (top_at nodes name) v ≡ true → k < length p.edges
         → touches v (edge_at p.edges k) ≡ true → (is_in (take i names) name ≡ true) ⊎ (get_or names i 0 ≡ name)
         → is_in c.edges k ≡ true
     by name v k minus held less touch (inl old) = more.kept k (before.near name v k old minus held less touch)
     by name v k minus held less touch (inr same) =
         more.near v k (ap (λ n. is_in (top_at nodes n) v) same ∙ held) less touch
 
-    away_all : (k : ℕ) → IsAway p nodes tree (take i names) k
+    away_all : (k : ℕ) → IsAway p nodes role (take i names) k
         → list_any (λ u. touches u (edge_at p.edges k)) (top_at nodes (get_or names i 0)) ≡ false → (name v : ℕ)
-        → role_in tree name ≡ Minus → is_in (top_at nodes name) v ≡ true
+        → role name ≡ Minus → is_in (top_at nodes name) v ≡ true
         → (is_in (take i names) name ≡ true) ⊎ (get_or names i 0 ≡ name) → touches v (edge_at p.edges k) ≡ false
     away_all k away none name v minus held (inl old) = away name v old minus held
     away_all k away none name v minus held (inr same) =
@@ -90,9 +91,9 @@ minus_on p nodes tree names i a b c lt before more = record {
     here : ℕ → Bool
     here k = list_any (λ v. touches v (edge_at p.edges k)) (top_at nodes (get_or names i 0))
 
-    bounds : StaysRight (IsAway p nodes tree (take (i + 1) names)) a c
+    bounds : StaysRight (IsAway p nodes role (take (i + 1) names)) a c
     bounds =
-        right_twice (IsAway p nodes tree (take i names)) (IsAway p nodes tree (take (i + 1) names)) here a b c
+        right_twice (IsAway p nodes role (take i names)) (IsAway p nodes role (take (i + 1) names)) here a b c
         (λ k none away name v mem minus held. away_all k away none name v minus held (is_in-take_more names i name lt mem))
         before.bounds
         (λ first last each.
@@ -103,10 +104,10 @@ minus_on p nodes tree names i a b c lt before more = record {
         (λ v among. away v (among_is_in (top_at nodes (get_or names i 0)) v among)))))
 
 -- a node that isn't minus brings no edges
-pub minus_past : (p : Problem) (nodes : List Node) (tree : Grown) (names : List ℕ) (i : ℕ) (a b : Watched) → i < length names
-    → ¬ (role_in tree (get_or names i 0) ≡ Minus) → WatchesMinus p nodes tree (take i names) a b
-    → WatchesMinus p nodes tree (take (i + 1) names) a b
-minus_past p nodes tree names i a b lt other before = record {
+pub minus_past : (p : Problem) (nodes : List Node) (role : ℕ → Role) (names : List ℕ) (i : ℕ) (a b : Watched) → i < length names
+    → ¬ (role (get_or names i 0) ≡ Minus) → WatchesMinusBy p nodes role (take i names) a b
+    → WatchesMinusBy p nodes role (take (i + 1) names) a b
+minus_past p nodes role names i a b lt other before = record {
   room = before.room;
   minus = before.minus;
   kept = before.kept;
@@ -118,20 +119,20 @@ minus_past p nodes tree names i a b lt other before = record {
       right;
 }
   where
-    by : (name v k : ℕ) → role_in tree name ≡ Minus → is_in (top_at nodes name) v ≡ true → k < length p.edges
+    by : (name v k : ℕ) → role name ≡ Minus → is_in (top_at nodes name) v ≡ true → k < length p.edges
         → touches v (edge_at p.edges k) ≡ true → (is_in (take i names) name ≡ true) ⊎ (get_or names i 0 ≡ name)
         → is_in b.edges k ≡ true
     by name v k minus held less touch (inl old) = before.near name v k old minus held less touch
-    by name v k minus held less touch (inr same) = absurd (other (ap (role_in tree) same ∙ minus))
+    by name v k minus held less touch (inr same) = absurd (other (ap (role) same ∙ minus))
 
-    away_past : (name v k : ℕ) → role_in tree name ≡ Minus → is_in (top_at nodes name) v ≡ true
-        → IsAway p nodes tree (take i names) k
+    away_past : (name v k : ℕ) → role name ≡ Minus → is_in (top_at nodes name) v ≡ true
+        → IsAway p nodes role (take i names) k
         → (is_in (take i names) name ≡ true) ⊎ (get_or names i 0 ≡ name) → touches v (edge_at p.edges k) ≡ false
     away_past name v k minus held away (inl old) = away name v old minus held
-    away_past name v k minus held away (inr same) = absurd (other (ap (role_in tree) same ∙ minus))
+    away_past name v k minus held away (inr same) = absurd (other (ap (role) same ∙ minus))
 
 -- a plus node of the tree with the blossom in it, other than the blossom, was plus
-plus_before : {L : Type 0} (joins : ℕ → Bool) (name root : ℕ) (tree : List (EntryOf L)) (n : ℕ) → n ≢ name
+pub plus_before : {L : Type 0} (joins : ℕ → Bool) (name root : ℕ) (tree : List (EntryOf L)) (n : ℕ) → n ≢ name
     → is_in (plus_names (renamed_name joins name root) (joined_tree joins name tree)) n ≡ true
     → is_in (plus_names root tree) n ≡ true
 plus_before {L} joins name root tree n other there = each tree there
@@ -170,7 +171,7 @@ plus_before {L} joins name root tree n other there = each tree there
             by (inr later) = is_in-tail e.plus (plus_names root es) n (rest later)
 
 -- a minus node that isn't joined is a minus node of the tree with the blossom in it
-minus_stays : (joins : ℕ → Bool) (name : ℕ) (tree : List (EntryOf ℕ)) (n : ℕ) → joins n ≡ false
+pub minus_stays : (joins : ℕ → Bool) (name : ℕ) (tree : List (EntryOf ℕ)) (n : ℕ) → joins n ≡ false
     → is_in (minus_names tree) n ≡ true → is_in (minus_names (joined_tree joins name tree)) n ≡ true
 minus_stays joins name [] n out there = there
 minus_stays joins name (e ∷ es) n out there =
@@ -189,7 +190,7 @@ minus_stays joins name (e ∷ es) n out there =
     put false h (inr older) later = is_in-tail e.minus (minus_names (joined_tree joins name es)) n (later older)
 
 -- each node of a tree is plus or minus
-plus_or_minus : {L : Type 0} (root : ℕ) (tree : List (EntryOf L)) (n : ℕ) → is_in (tree_names root tree) n ≡ true
+pub plus_or_minus : {L : Type 0} (root : ℕ) (tree : List (EntryOf L)) (n : ℕ) → is_in (tree_names root tree) n ≡ true
     → (is_in (plus_names root tree) n ≡ true) ⊎ (is_in (minus_names tree) n ≡ true)
 plus_or_minus root [] n there = inl there
 plus_or_minus root (e ∷ es) n there = minus (is_in-cases e.minus (e.plus ∷ tree_names root es) n there)
@@ -230,15 +231,19 @@ role_there t n there = by (is_in (plus_names t.root t.branches) n) (is_in (minus
     by false false (inl none) = absurd (false≢true none)
     by false false (inr none) = absurd (false≢true none)
 
-module _ (p : Problem) (nodes : List Node) (tree : Grown) (name : ℕ) (children : List ℕ) (old new : Watched)
+-- The roles of nodes before and after some of them are joined under a name that no node had: no other node becomes plus, and
+-- the minus nodes that are not joined stay minus.
+module _ (p : Problem) (nodes : List Node) (before after : ℕ → Role) (name : ℕ) (children : List ℕ) (old new : Watched)
     (limits : IsWithinLimits p) (names : AreDistinct (map (λ n. n.name) nodes)) (apart : AreOuterApart nodes)
     (apart_after : AreOuterApart (joined_nodes name children nodes))
     (outer : is_outer (joined_nodes name children nodes) name ≡ true)
     (may : MayJoin nodes name children)
-    (within : (n : ℕ) → is_in children n ≡ true → is_in (tree_names tree.root tree.branches) n ≡ true)
-    (watches : WatchesMinus p nodes tree children old new) where
+    (there : (n : ℕ) → is_in children n ≡ true → (grows (before n) ≡ true) ⊎ (before n ≡ Minus))
+    (plus_was : (n : ℕ) → n ≢ name → grows (after n) ≡ true → grows (before n) ≡ true)
+    (minus_still : (n : ℕ) → n ≢ name → is_in children n ≡ false → shrinks (before n) ≡ true → shrinks (after n) ≡ true)
+    (watches : WatchesMinusBy p nodes before children old new) where
   -- the edges at a vertex of a minus node of the cycle are watched
-  watched_at : (n v : ℕ) → is_in children n ≡ true → role_in tree n ≡ Minus → is_in (top_at nodes n) v ≡ true
+  watched_at : (n v : ℕ) → is_in children n ≡ true → before n ≡ Minus → is_in (top_at nodes n) v ≡ true
       → IsWatchedAt p (joined_nodes name children nodes) new.edges v
   watched_at n v child minus held k less (inl first) one =
       watches.near n v k child minus held less
@@ -247,15 +252,12 @@ module _ (p : Problem) (nodes : List Node) (tree : Grown) (name : ℕ) (children
       watches.near n v k child minus held less
       (ap (λ u. touches u (edge_at p.edges k)) (sym second) ∙ touches_second p k limits less)
 
-  abbrev After : Grown
-  After = replacements.joined_grown tree children name
-
   abbrev Joined : List Node
   Joined = joined_nodes name children nodes
 
   -- a minus node of the cycle held the vertex
   abbrev WasMinus : ℕ → Type 0
-  WasMinus v = (n : ℕ) × (is_in children n ≡ true) × (role_in tree n ≡ Minus) × (is_in (top_at nodes n) v ≡ true)
+  WasMinus v = (n : ℕ) × (is_in children n ≡ true) × (before n ≡ Minus) × (is_in (top_at nodes n) v ≡ true)
 
   held_by : (v n : ℕ) → cover_of nodes v ≡ Some n → is_in (top_at nodes n) v ≡ true
   held_by v n cover = (cover_set nodes v n names cover).1
@@ -265,88 +267,117 @@ module _ (p : Problem) (nodes : List Node) (tree : Grown) (name : ℕ) (children
       let a = cover_among nodes v n cover in
       both_ways (is_live nodes name) may.fresh (ap (is_live nodes) (sym same) ∙ among_live nodes a.node n a.among a.named)
 
-  over_before : (v : ℕ) → is_covered_by (roles_by (role_in After)).is_plus Joined v ≡ true
-      → (is_covered_by (roles_by (role_in tree)).is_plus nodes v ≡ true) ⊎ WasMinus v
+  over_before : (v : ℕ) → is_covered_by (roles_by after).is_plus Joined v ≡ true
+      → (is_covered_by (roles_by before).is_plus nodes v ≡ true) ⊎ WasMinus v
   over_before v over =
-      let (m, cover, plus) = plus_over (roles_by (role_in After)).is_plus Joined v over in
+      let (m, cover, plus) = plus_over (roles_by after).is_plus Joined v over in
       let (n, was, which) = cover_before nodes name children names apart may v m cover in by m plus n was which
     where
-      still : (n : ℕ) → cover_of nodes v ≡ Some n → grows (role_in tree n) ≡ true
-          → is_covered_by (roles_by (role_in tree)).is_plus nodes v ≡ true
-      still n cover plus = ap (passes (roles_by (role_in tree)).is_plus) cover ∙ plus
+      still : (n : ℕ) → cover_of nodes v ≡ Some n → grows (before n) ≡ true
+          → is_covered_by (roles_by before).is_plus nodes v ≡ true
+      still n cover plus = ap (passes (roles_by before).is_plus) cover ∙ plus
 
       joined_one : (n : ℕ) → cover_of nodes v ≡ Some n → is_in children n ≡ true
-          → (grows (role_in tree n) ≡ true) ⊎ (role_in tree n ≡ Minus)
-          → (is_covered_by (roles_by (role_in tree)).is_plus nodes v ≡ true) ⊎ WasMinus v
+          → (grows (before n) ≡ true) ⊎ (before n ≡ Minus)
+          → (is_covered_by (roles_by before).is_plus nodes v ≡ true) ⊎ WasMinus v
       joined_one n cover child (inl plus) = inl (still n cover plus)
       joined_one n cover child (inr minus) = inr (n, child, minus, held_by v n cover)
 
-      by : (m : ℕ) → (roles_by (role_in After)).is_plus m ≡ true → (n : ℕ) → cover_of nodes v ≡ Some n
+      by : (m : ℕ) → (roles_by after).is_plus m ≡ true → (n : ℕ) → cover_of nodes v ≡ Some n
           → ((is_in children n ≡ true) × (m ≡ name)) ⊎ ((is_in children n ≡ false) × (m ≡ n))
-          → (is_covered_by (roles_by (role_in tree)).is_plus nodes v ≡ true) ⊎ WasMinus v
-      by m plus n cover (inl (child, same)) = joined_one n cover child (role_there tree n (within n child))
+          → (is_covered_by (roles_by before).is_plus nodes v ≡ true) ⊎ WasMinus v
+      by m plus n cover (inl (child, same)) = joined_one n cover child (there n child)
       by m plus n cover (inr (out, same)) =
-          inl
-          (still n cover
-          (plus_role tree n
-          (plus_before (is_in children) name tree.root tree.branches n (not_name v n cover)
-          (plus_in_tree After n (ap (roles_by (role_in After)).is_plus (sym same) ∙ plus)))))
+          inl (still n cover (plus_was n (not_name v n cover) (ap (roles_by after).is_plus (sym same) ∙ plus)))
 
-  under_after : (v : ℕ) → ¬ WasMinus v → is_covered_by (roles_by (role_in tree)).is_minus nodes v ≡ true
-      → is_covered_by (roles_by (role_in After)).is_minus Joined v ≡ true
+  under_after : (v : ℕ) → ¬ WasMinus v → is_covered_by (roles_by before).is_minus nodes v ≡ true
+      → is_covered_by (roles_by after).is_minus Joined v ≡ true
   under_after v away under =
-      let (n, cover, minus) = plus_over (roles_by (role_in tree)).is_minus nodes v under in
+      let (n, cover, minus) = plus_over (roles_by before).is_minus nodes v under in
       by n cover minus (cases_Bool (is_in children n))
     where
-      by : (n : ℕ) → cover_of nodes v ≡ Some n → shrinks (role_in tree n) ≡ true
+      by : (n : ℕ) → cover_of nodes v ≡ Some n → shrinks (before n) ≡ true
           → (is_in children n ≡ true) ⊎ (is_in children n ≡ false)
-          → is_covered_by (roles_by (role_in After)).is_minus Joined v ≡ true
-      by n cover minus (inl child) = absurd (away (n, child, only_minus (role_in tree n) minus, held_by v n cover))
+          → is_covered_by (roles_by after).is_minus Joined v ≡ true
+      by n cover minus (inl child) = absurd (away (n, child, only_minus (before n) minus, held_by v n cover))
       by n cover minus (inr out) =
-          let not_plus : is_in (plus_names After.root After.branches) n ≡ false =
-          false_from_ne_true (is_in (plus_names After.root After.branches) n)
-          (λ plus.
-          both_ways (is_in (plus_names tree.root tree.branches) n) (minus_not_plus tree n minus)
-          (plus_before (is_in children) name tree.root tree.branches n (not_name v n cover) plus)) in
-          ap (passes (roles_by (role_in After)).is_minus) (cover_joined nodes name children apart_after v n cover out)
-          ∙ minus_role After n not_plus
-          (minus_stays (is_in children) name tree.branches n out (minus_in_tree tree n minus))
+          ap (passes (roles_by after).is_minus) (cover_joined nodes name children apart_after v n cover out)
+          ∙ minus_still n (not_name v n cover) out minus
 
-  milder_closed : (v : ℕ) → ¬ WasMinus v → IsMilder (roles_by (role_in tree)) (roles_by (role_in After)) nodes Joined v
+  milder_closed : (v : ℕ) → ¬ WasMinus v → IsMilder (roles_by before) (roles_by after) nodes Joined v
   milder_closed v away = record { plus = λ over. by (over_before v over); minus = under_after v away }
     where
-      by : (is_covered_by (roles_by (role_in tree)).is_plus nodes v ≡ true) ⊎ WasMinus v
-          → is_covered_by (roles_by (role_in tree)).is_plus nodes v ≡ true
+      by : (is_covered_by (roles_by before).is_plus nodes v ≡ true) ⊎ WasMinus v
+          → is_covered_by (roles_by before).is_plus nodes v ≡ true
       by (inl before) = before
       by (inr was) = absurd (away was)
 
-  pub watch_closed : IsWatched p (roles_by (role_in tree)) nodes old.edges → All (λ k. k < length p.edges) new.edges
-      → IsWatched p (roles_by (role_in After)) Joined new.edges
-  watch_closed was below =
-      watch_kept p (roles_by (role_in tree)) (roles_by (role_in After)) nodes Joined old.edges new.edges was below watches.kept
+  pub watch_joined : IsWatched p (roles_by before) nodes old.edges → All (λ k. k < length p.edges) new.edges
+      → IsWatched p (roles_by after) Joined new.edges
+  watch_joined was below =
+      watch_kept p (roles_by before) (roles_by after) nodes Joined old.edges new.edges was below watches.kept
       (λ v over. by v (over_before v over)) (together_joined nodes name children names apart_after outer)
     where
-      by : (v : ℕ) → (is_covered_by (roles_by (role_in tree)).is_plus nodes v ≡ true) ⊎ WasMinus v
-          → (is_covered_by (roles_by (role_in tree)).is_plus nodes v ≡ true) ⊎ IsWatchedAt p Joined new.edges v
+      by : (v : ℕ) → (is_covered_by (roles_by before).is_plus nodes v ≡ true) ⊎ WasMinus v
+          → (is_covered_by (roles_by before).is_plus nodes v ≡ true) ⊎ IsWatchedAt p Joined new.edges v
       by v (inl before) = inl before
       by v (inr (n, child, minus, held)) = inr (watched_at n v child minus held)
 
-  pub bounded_closed : ((v : ℕ) → height_of (all_cuts Joined) v ≡ height_of (all_cuts nodes) v)
-      → AreBounded (slack_at p (roles_by (role_in tree)) nodes) old
-      → AreBounded (slack_at p (roles_by (role_in After)) Joined) new
-  bounded_closed heights =
-      watches.bounds (slack_at p (roles_by (role_in tree)) nodes) (slack_at p (roles_by (role_in After)) Joined)
+  pub bounded_joined : ((v : ℕ) → height_of (all_cuts Joined) v ≡ height_of (all_cuts nodes) v)
+      → AreBounded (slack_at p (roles_by before) nodes) old
+      → AreBounded (slack_at p (roles_by after) Joined) new
+  bounded_joined heights =
+      watches.bounds (slack_at p (roles_by before) nodes) (slack_at p (roles_by after) Joined)
       (λ k away.
-      slack_away (roles_by (role_in tree)) (roles_by (role_in After)) nodes Joined WasMinus (edge_at p.edges k) heights
+      slack_away (roles_by before) (roles_by after) nodes Joined WasMinus (edge_at p.edges k) heights
       milder_closed (λ u v at_u at_v one. together_joined nodes name children names apart_after outer u v one)
       (λ v was. away was.0 v was.1 was.2 was.3))
 
+module _ (p : Problem) (nodes : List Node) (tree : Grown) (name : ℕ) (children : List ℕ) (old new : Watched)
+    (limits : IsWithinLimits p) (names : AreDistinct (map (λ n. n.name) nodes)) (apart : AreOuterApart nodes)
+    (apart_after : AreOuterApart (joined_nodes name children nodes))
+    (outer : is_outer (joined_nodes name children nodes) name ≡ true)
+    (may : MayJoin nodes name children)
+    (within : (n : ℕ) → is_in children n ≡ true → is_in (tree_names tree.root tree.branches) n ≡ true)
+    (watches : WatchesMinus p nodes tree children old new) where
+  abbrev After : Grown
+  After = replacements.joined_grown tree children name
+
+  plus_before_in : (n : ℕ) → n ≢ name → grows (role_in After n) ≡ true → is_in (plus_names tree.root tree.branches) n ≡ true
+  plus_before_in n other plus =
+      plus_before (is_in children) name tree.root tree.branches n other (plus_in_tree After n plus)
+
+  minus_after : (n : ℕ) → n ≢ name → is_in children n ≡ false → shrinks (role_in tree n) ≡ true
+      → shrinks (role_in After n) ≡ true
+  minus_after n other out minus =
+      let not_plus : is_in (plus_names After.root After.branches) n ≡ false =
+      false_from_ne_true (is_in (plus_names After.root After.branches) n)
+      (λ plus.
+      both_ways (is_in (plus_names tree.root tree.branches) n) (minus_not_plus tree n minus)
+      (plus_before (is_in children) name tree.root tree.branches n other plus)) in
+      minus_role After n not_plus (minus_stays (is_in children) name tree.branches n out (minus_in_tree tree n minus))
+
+  pub watch_closed : IsWatched p (roles_by (role_in tree)) nodes old.edges → All (λ k. k < length p.edges) new.edges
+      → IsWatched p (roles_by (role_in After)) (joined_nodes name children nodes) new.edges
+  watch_closed was below =
+      watch_joined p nodes (role_in tree) (role_in After) name children old new limits names apart apart_after outer may
+      (λ n child. role_there tree n (within n child)) (λ n other plus. plus_role tree n (plus_before_in n other plus)) minus_after
+      watches was below
+
+  pub bounded_closed : ((v : ℕ) → height_of (all_cuts (joined_nodes name children nodes)) v ≡ height_of (all_cuts nodes) v)
+      → AreBounded (slack_at p (roles_by (role_in tree)) nodes) old
+      → AreBounded (slack_at p (roles_by (role_in After)) (joined_nodes name children nodes)) new
+  bounded_closed heights was =
+      bounded_joined p nodes (role_in tree) (role_in After) name children old new limits names apart apart_after outer may
+      (λ n child. role_there tree n (within n child)) (λ n other plus. plus_role tree n (plus_before_in n other plus)) minus_after
+      watches heights was
+
 -- the same by the scope of the part's node, whose problem has no defects
-pub watches_minus : (part : PartValue) (g : DecodingGraph) (t : PlanTree) (n : ℕ) (nodes : List Node) (tree : Grown)
+pub watches_minus : (part : PartValue) (g : DecodingGraph) (t : PlanTree) (n : ℕ) (nodes : List Node) (role : ℕ → Role)
     (names : List ℕ) (old new : Watched) → g ≡ graph_in part
-    → WatchesMinus (problem_at g t n no_shot) nodes tree names old new
-    → WatchesMinus (problem_in part) nodes tree names old new
-watches_minus part g t n nodes tree names old new eg watches =
-    let w : WatchesMinus (problem_at (graph_in part) t n no_shot) nodes tree names old new =
-    subst (λ h. WatchesMinus (problem_at h t n no_shot) nodes tree names old new) eg watches in
+    → WatchesMinusBy (problem_at g t n no_shot) nodes role names old new
+    → WatchesMinusBy (problem_in part) nodes role names old new
+watches_minus part g t n nodes role names old new eg watches =
+    let w : WatchesMinusBy (problem_at (graph_in part) t n no_shot) nodes role names old new =
+    subst (λ h. WatchesMinusBy (problem_at h t n no_shot) nodes role names old new) eg watches in
     record { room = w.room; minus = w.minus; kept = w.kept; near = w.near; bounds = w.bounds }

@@ -15,7 +15,7 @@ use Rattle.fb_graph.proofs.Walks.{Leads_flip}
 abbrev pub AreHeld : List Node → Edge → Type 0
 AreHeld nodes e = (a b : ℕ) × (cover_of nodes e.first ≡ Some a) × (cover_of nodes e.second ≡ Some b)
 
-held_by : (nodes : List Node) (e : Edge) (u v a b : ℕ) → Leads e u v → cover_of nodes u ≡ Some a → cover_of nodes v ≡ Some b
+pub held_by : (nodes : List Node) (e : Edge) (u v a b : ℕ) → Leads e u v → cover_of nodes u ≡ Some a → cover_of nodes v ≡ Some b
     → AreHeld nodes e
 held_by nodes e u v a b (inl (first, second)) at_u at_v =
     (a, b, ap (cover_of nodes) first ∙ at_u, ap (cover_of nodes) second ∙ at_v)

@@ -140,7 +140,7 @@ ended_lists w name new unmatched kept out are is =
     (sym (new_link w name new unmatched kept out are is)) is.leads)
 
 -- four lists in the order of the law and in that of the code
-reordered : {X : Type 0} (xs ys zs : List X) (x : X) → IsPermutation (xs ++ x ∷ (ys ++ zs)) ((zs ++ (xs ++ ys)) ++ x ∷ [])
+pub reordered : {X : Type 0} (xs ys zs : List X) (x : X) → IsPermutation (xs ++ x ∷ (ys ++ zs)) ((zs ++ (xs ++ ys)) ++ x ∷ [])
 reordered xs ys zs x =
     IsPermutation-trans _ _ _ (IsPermutation-middle xs x (ys ++ zs))
     (subst (λ l. IsPermutation (x ∷ l) ((zs ++ (xs ++ ys)) ++ x ∷ [])) (append_assoc xs ys zs)

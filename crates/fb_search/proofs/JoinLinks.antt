@@ -4,20 +4,23 @@ use Rattle.std.specs.List.Sorted.{IsPermutation}
 use Rattle.std.proofs.lemmas.List.{length-map}
 use Rattle.fb_graph.specs.Parity.{is_in}
 use Rattle.fb_graph.specs.Problem.{Problem}
+use Rattle.fb_graph.specs.Laws.{Link}
 use Rattle.fb_graph.specs.Certificate.{AreDistinct}
 use Rattle.fb_graph.specs.Moves.{joined_nodes}
+use Rattle.fb_graph.specs.Nests.{IsNest}
 use Rattle.fb_graph.proofs.Sets.{is_in-tail}
 use Rattle.fb_links.specs.declared.cycle.CycleStep.{CycleStep}
 use Rattle.fb_links.specs.declared.walk.Step.{Step}
 use Rattle.fb_blossoms.specs.Nodes.{Adds}
 use Rattle.fb_blossoms.specs.Nodes as blossoms
 use Rattle.fb_laws.specs.LinkNumbers.{IsCycleJoined, tree_links}
-use Rattle.fb_laws.specs.PartStates.{SearchState, IsSearchState}
+use Rattle.fb_laws.specs.PartStates.{SearchState}
 use Rattle.fb_laws.specs.SearchBlossoms.{inner_branches, joined_tree}
+use Rattle.fb_laws.specs.Searches.{IsSearch}
 use Rattle.fb_laws.specs.StateBlossoms.{MayClose}
 use Rattle.fb_laws.specs.TreeCycles.{ArePaths, cycle_links, cycle_nodes, last_plus}
 use Rattle.fb_laws.specs.Trees.{EntryOf, minus_names}
-use Rattle.fb_laws.proofs.LinkNumbers.{branches_counted, cycle_counted, links_joined_in}
+use Rattle.fb_laws.proofs.LinkNumbers.{branches_counted, cycle_in_search, links_joined_in}
 use Rattle.fb_trees.proofs.Mapped.{minus_moved}
 use Rattle.fb_half.specs.Parts.{AreLinksOf}
 use Rattle.fb_half.specs.Translations.{entry_by, link_by, ring_links}
@@ -28,7 +31,8 @@ use Rattle.fb_search.proofs.Linked.{closed_numbers, links_reordered, rings_joine
 module _ (p : Problem) (s : SearchState) (links : List (Option (List Step))) (branches : List (EntryOf ℕ))
     (tree_is : s.tree ≡ map (entry_by links) branches) (name a b closing : ℕ) (shared up down : List (EntryOf ℕ))
     (may : MayClose p s name a b (link_by links closing)) (paths : ArePaths branches a b shared up down)
-    (state : IsSearchState p s) where
+    (rest : List Link) (nest : IsNest p s.nodes)
+    (search : IsSearch p s.nodes s.tree rest s.unmatched s.root s.parity) where
   abbrev cycle : List ℕ
   cycle = cycle_from s.root shared up down
 
@@ -42,9 +46,9 @@ module _ (p : Problem) (s : SearchState) (links : List (Option (List Step))) (br
       × (length (inner_branches (is_in c) s.tree)
       ≡ length (map (entry_by links) up) + length (map (entry_by links) down)))
       (same_cycle links s.root shared up down)
-      (cycle_counted p s name a b (link_by links closing) (map (entry_by links) shared) (map (entry_by links) up)
+      (cycle_in_search p s name a b (link_by links closing) (map (entry_by links) shared) (map (entry_by links) up)
       (map (entry_by links) down) may
-      (paths_of links s.tree branches tree_is a b shared up down paths) state)
+      (paths_of links s.tree branches tree_is a b shared up down paths) rest nest search)
 
   cycle_joined : IsCycleJoined (is_in cycle) branches up down
   cycle_joined = record {

@@ -27,7 +27,7 @@ use Rattle.fb_trees.proofs.Mapped.{cycle_links_moved, joined_moved, minus_moved,
 use Rattle.fb_half.specs.Translations.{cycles_by, entry_by, link_by}
 use Rattle.fb_search.proofs.Cycles.{cycle_from, same_cycle, paths_of}
 
-roles_moved : (links : List (Option (List Step))) (root : ℕ) (branches : List (EntryOf ℕ))
+pub roles_moved : (links : List (Option (List Step))) (root : ℕ) (branches : List (EntryOf ℕ))
     → roles_of root (map (entry_by links) branches) ≡ roles_of root branches
 roles_moved links root branches =
     ap (λ ps. roles_by_names ps (minus_names (map (entry_by links) branches))) (plus_moved (link_by links) root branches)
@@ -39,6 +39,46 @@ same_names joins name [] out = refl
 same_names joins name (n ∷ ns) out =
     ap (λ b. (if b then name else n) ∷ map (renamed_name joins name) ns) (out n (is_in-head n ns))
     ∙ ap (λ l. n ∷ l) (same_names joins name ns (λ k there. out k (is_in-tail n ns k there)))
+
+module _ (s : SearchState) (links : List (Option (List Step))) (name closing : ℕ) (shared up down : List (EntryOf ℕ)) where
+  abbrev pub made_links : List Link
+  made_links = cycle_links (map (entry_by links) up) (link_by links closing) (map (entry_by links) down)
+
+  -- the blossom is listed in the place of the root, if that is on the cycle
+  pub names_joined : (beside unmatched : List ℕ) → IsPermutation s.unmatched (s.root ∷ beside)
+      → ((n : ℕ) → is_in beside n ≡ true → is_in (cycle_from s.root shared up down) n ≡ false)
+      → IsPermutation (renamed_name (is_in (cycle_from s.root shared up down)) name s.root ∷ beside) unmatched
+      → IsPermutation (map (renamed_name (is_in (cycle_from s.root shared up down)) name) s.unmatched) unmatched
+  names_joined beside unmatched root_in out listed =
+      IsPermutation-trans (map (renamed_name (is_in (cycle_from s.root shared up down)) name) s.unmatched)
+      (renamed_name (is_in (cycle_from s.root shared up down)) name s.root ∷ beside) unmatched
+      (subst
+      (λ l.
+      IsPermutation (map (renamed_name (is_in (cycle_from s.root shared up down)) name) s.unmatched)
+      (renamed_name (is_in (cycle_from s.root shared up down)) name s.root ∷ l))
+      (same_names (is_in (cycle_from s.root shared up down)) name beside out)
+      (IsPermutation-map (renamed_name (is_in (cycle_from s.root shared up down)) name) s.unmatched (s.root ∷ beside) root_in))
+      listed
+
+  -- the store has the cycle's links for the blossom, and those of the other blossoms as before
+  pub links_stored : (old new : List (Option blossoms.Node)) (steps : List CycleStep)
+      → ((n : ℕ) → s.cycles n ≡ cycles_by links old n) → map (λ c. c.link) steps ≡ cycle_links up closing down
+      → Adds old new name (blossoms.blossom old steps) → (n : ℕ)
+      → cycles_by links new n ≡ with_cycle name made_links s.cycles n
+  links_stored old new steps cycles_are links_are adds n = by (cases_eq n name)
+    where
+      by : (n ≡ name) ⊎ (n ≡ name → ⊥) → cycles_by links new n ≡ with_cycle name made_links s.cycles n
+      by (inl e) =
+          ap (cycles_by links new) e
+          ∙ (ap (λ (o : Option blossoms.Node). map (link_by links) (map (λ c. c.link) (cycle_of o))) adds.added
+          ∙ (ap (map (link_by links)) links_are
+          ∙ (sym (cycle_links_moved (link_by links) up closing down)
+          ∙ ap (λ t. if t then made_links else s.cycles n) (sym (eq-eqb n name e)))))
+      by (inr differ) =
+          ap (λ (o : Option blossoms.Node). map (link_by links) (map (λ c. c.link) (cycle_of o))) (adds.others n differ)
+          ∙ (sym (cycles_are n)
+          ∙ ap (λ t. if t then made_links else s.cycles n)
+          (sym (false_from_ne_true (n == name) (λ same. differ (eqb-true n name same)))))
 
 module _ (p : Problem) (s : SearchState) (links : List (Option (List Step))) (branches : List (EntryOf ℕ))
     (tree_is : s.tree ≡ map (entry_by links) branches) (name a b closing : ℕ) (shared up down : List (EntryOf ℕ))
@@ -99,35 +139,12 @@ module _ (p : Problem) (s : SearchState) (links : List (Option (List Step))) (br
       (same_cycle links s.root shared up down)
       (search_reordered p (joined_state name (cycle_from s.root (map (entry_by links) shared) (map (entry_by links) up)
       (map (entry_by links) down)) moved_links s) (cycles_by links new) s.rest unmatched
-      (λ n live. cycles_agree n (cases_eq n name)) (IsPermutation-refl s.rest)
+      (λ n live. links_stored s links name closing shared up down old new steps cycles_are links_are adds n) (IsPermutation-refl s.rest)
       (subst (λ c. IsPermutation (map (renamed_name (is_in c) name) s.unmatched) unmatched)
-      (sym (same_cycle links s.root shared up down)) names_moved)
+      (sym (same_cycle links s.root shared up down))
+      (names_joined s links name closing shared up down beside unmatched root_in out listed))
       (state_closed p s name a b (link_by links closing) (map (entry_by links) shared) (map (entry_by links) up)
       (map (entry_by links) down) may (paths_of links s.tree branches tree_is a b shared up down paths) state)))
-    where
-      names_moved : IsPermutation (map (renamed_name (is_in cycle) name) s.unmatched) unmatched
-      names_moved =
-          IsPermutation-trans (map (renamed_name (is_in cycle) name) s.unmatched)
-          (renamed_name (is_in cycle) name s.root ∷ beside) unmatched
-          (subst
-          (λ l. IsPermutation (map (renamed_name (is_in cycle) name) s.unmatched) (renamed_name (is_in cycle) name s.root ∷ l))
-          (same_names (is_in cycle) name beside out)
-          (IsPermutation-map (renamed_name (is_in cycle) name) s.unmatched (s.root ∷ beside) root_in))
-          listed
-
-      cycles_agree : (n : ℕ) → (n ≡ name) ⊎ (n ≡ name → ⊥)
-          → cycles_by links new n ≡ with_cycle name moved_links s.cycles n
-      cycles_agree n (inl e) =
-          ap (cycles_by links new) e
-          ∙ (ap (λ (o : Option blossoms.Node). map (link_by links) (map (λ c. c.link) (cycle_of o))) adds.added
-          ∙ (ap (map (link_by links)) links_are
-          ∙ (sym (cycle_links_moved (link_by links) up closing down)
-          ∙ ap (λ t. if t then moved_links else s.cycles n) (sym (eq-eqb n name e)))))
-      cycles_agree n (inr differ) =
-          ap (λ (o : Option blossoms.Node). map (link_by links) (map (λ c. c.link) (cycle_of o))) (adds.others n differ)
-          ∙ (sym (cycles_are n)
-          ∙ ap (λ t. if t then moved_links else s.cycles n)
-          (sym (false_from_ne_true (n == name) (λ same. differ (eqb-true n name same)))))
 
   -- Less is left to do.
   pub less_after : (free freed : Bool)

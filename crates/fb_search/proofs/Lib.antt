@@ -1,7 +1,10 @@
 pub mod Agreed
 pub mod AttachedBranches
+pub mod AttachedForests
 pub mod AttachedMatches
+pub mod AttachedRoles
 pub mod AttachedSearches
+pub mod BegunForests
 pub mod BegunSearches
 pub mod BranchEnds
 pub mod BranchPlaces
@@ -10,9 +13,12 @@ pub mod ClosedSearches
 pub mod ClosedWatches
 pub mod CoversBefore
 pub mod Cycles
+pub mod DissolvedForests
+pub mod DissolvedGrowth
 pub mod DissolvedParts
 pub mod DissolvedStates
 pub mod DissolvedTrees
+pub mod DissolvedWatches
 mod DoneSteps
 pub mod DroppedLinks
 pub mod EdgeMeets
@@ -28,7 +34,15 @@ pub mod EndsUnder
 pub mod EnteredChildren
 pub mod EnteredWays
 pub mod ExchangedObstacles
+pub mod FinishedGrowth
+pub mod ForestPlaces
 pub mod FreeSteps
+pub mod GrowingLayers
+pub mod GrowingRoles
+pub mod GrownEnds
+pub mod GrownFree
+pub mod GrownSteps
+pub mod GrowthRuns
 pub mod JoinConditions
 pub mod JoinLinks
 pub mod JoinMatchings
@@ -37,13 +51,16 @@ pub mod KeptBounds
 pub mod KeptNodes
 pub mod KeptWatches
 pub mod Linked
-pub mod ListedSteps
 pub mod LinkedSteps
+pub mod ListedSteps
 pub mod MadeLinks
 pub mod Matched
+pub mod MatchedTrees
+pub mod MeetsOver
 pub mod MetMatches
 pub mod MetOutside
 pub mod MetPairs
+pub mod MetTrees
 pub mod MinusBounds
 pub mod MinusNodes
 pub mod NearAround
@@ -52,6 +69,7 @@ pub mod NearGrowth
 pub mod NearMatches
 pub mod NearPairs
 pub mod NearParts
+pub mod NextForests
 pub mod NextObstacles
 pub mod OpenedAlong
 pub mod OpenedConditions
@@ -69,10 +87,20 @@ pub mod OpenedWatches
 pub mod OpenedWays
 pub mod Openings
 mod OutcomeSteps
+pub mod OutsideNodes
 pub mod Relayered
+pub mod ReleasedForests
 pub mod ReleasedMatches
+pub mod RelinkedForests
 pub mod Renamed
 pub mod ReplacedNames
+pub mod RingCycles
+pub mod RingOpenings
+pub mod RingPairs
+pub mod RingRoles
+pub mod RingRounds
+pub mod RingSearches
+pub mod RolesAmong
 pub mod RolesInTree
 pub mod RoundPaces
 pub mod RoundPlaces
@@ -84,6 +112,7 @@ pub mod Runs
 pub mod ScopeWalks
 pub mod SearchRoles
 pub mod SearchedEach
+pub mod SplitForests
 pub mod StepPairs
 pub mod StepWalks
 pub mod SteppedSearches
@@ -91,4 +120,7 @@ pub mod SwappedPaths
 pub mod TakenNames
 pub mod TakenVertices
 pub mod TreeEnds
+pub mod TreeMatches
+pub mod TreeMeets
+pub mod TreesAlone
 pub mod UncoveredLayers

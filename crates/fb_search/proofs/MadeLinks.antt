@@ -23,7 +23,7 @@ use Rattle.fb_links.proofs.MovedLinks.{Table}
 use Rattle.fb_graph.proofs.Floods.{is_in-left, is_in-right}
 
 -- branches whose links stay
-entries_same : (old new : Table) (tree : List (EntryOf ℕ))
+pub entries_same : (old new : Table) (tree : List (EntryOf ℕ))
     → ((id : ℕ) → is_in (grown_links tree) id ≡ true → link_by new id ≡ link_by old id)
     → ((id : ℕ) → is_in (paired_links tree) id ≡ true → link_by new id ≡ link_by old id)
     → map (entry_by new) tree ≡ map (entry_by old) tree

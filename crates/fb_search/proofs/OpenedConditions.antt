@@ -27,12 +27,12 @@ use Rattle.fb_half.specs.Translations.{children_at, ring_at, ring_links}
 use Rattle.fb_trees.specs.Replacements.{AreLinkedOn, MayOpen, first_node, way_from, way_of}
 use Rattle.fb_trees.specs.Rooted.{is_node}
 use Rattle.fb_search.specs.InternalOpenings.{couples_on, links_left, rest_on, way_on}
-use Rattle.fb_search.specs.InternalSearching.{IsSearching, SearchValue, problem_of, unmatched_in}
+use Rattle.fb_search.specs.InternalSearching.{SearchValue, problem_of, searched_links, unmatched_in}
 use Rattle.fb_search.proofs.Agreed.{nodes_of, on_is_in}
 use Rattle.fb_search.proofs.OpenedAlong.{couples_listed, first_is, links_parted, nodes_parted, way_listed, way_odd}
 use Rattle.fb_search.proofs.OpenedNames.{along_way, names-along}
 use Rattle.fb_search.proofs.OpenedSplits.{child_was_inner, children_many}
-use Rattle.fb_search.proofs.Openings.{Opens, round_in}
+use Rattle.fb_search.proofs.Openings.{IsOpening, Opens, round_in}
 use Rattle.fb_graph.proofs.Floods.{is_in-both, is_in-left, is_in-right}
 use Rattle.fb_graph.proofs.Members.{distinct_left, is_in-append}
 
@@ -66,7 +66,7 @@ linked_way : (links : List (Option (List Step))) (steps : List CycleStep) → le
 linked_way links [] odd live = tt
 linked_way links (s ∷ ss) odd live = linked_on links s ss odd live
 
-module _ (w : SearchValue) (name : ℕ) (e : EntryOf ℕ) (above below : ℕ) (are : IsSearching w)
+module _ {more : List ℕ} (w : SearchValue) (name : ℕ) (e : EntryOf ℕ) (above below : ℕ) (are : IsOpening more w)
     (opens : Opens w name e above below) where
   abbrev pub cycle : List CycleStep
   cycle = cycle_at w.part.store name
@@ -78,7 +78,7 @@ module _ (w : SearchValue) (name : ℕ) (e : EntryOf ℕ) (above below : ℕ) (a
   rest = rest_on (round_in w.part name above below) below
 
   pub nest : IsNest (problem_of w) w.part.nodes
-  nest = are.state.1.search.nest
+  nest = are.nest
 
   pub children_are : All (λ n. n.name ≡ name → n.children ≡ nodes_of cycle) w.part.nodes
   children_are =
@@ -142,7 +142,7 @@ module _ (w : SearchValue) (name : ℕ) (e : EntryOf ℕ) (above below : ℕ) (a
           root (inl same) =
               is_in-left (listed_names w.part.matching) (nodes_along w.tree.branches) n
               (is_in-left (unmatched_in w) (matched_names w.part.matching.matches) n
-              (ap (is_in (unmatched_in w)) (sym same) ∙ are.state.1.search.search.open_root))
+              (ap (is_in (unmatched_in w)) (sym same) ∙ are.search.open_root))
           root (inr none) = absurd (false≢true none)
 
   pub way_opens : MayOpen w.tree name way
@@ -209,7 +209,7 @@ module _ (w : SearchValue) (name : ℕ) (e : EntryOf ℕ) (above below : ℕ) (a
       subst AreDistinct rings_are
       (distinct_right (match_links w.part.matching.matches) (ring_links w.part.nodes w.part.store)
       (distinct_right (tree_links w.tree.branches) (match_links w.part.matching.matches ++ ring_links w.part.nodes w.part.store)
-      are.links.distinct))
+      (distinct_right more (searched_links w) are.links.distinct)))
 
   pub left_distinct : AreDistinct (links_left (round_in w.part name above below) below)
   left_distinct =
@@ -223,10 +223,11 @@ module _ (w : SearchValue) (name : ℕ) (e : EntryOf ℕ) (above below : ℕ) (a
   ring_live : (id : ℕ) → is_in (ring_at w.part.store name) id ≡ true → table.is_live w.part.links id ≡ true
   ring_live id there =
       are.links.live id
-      ∙ is_in-right (tree_links w.tree.branches) (match_links w.part.matching.matches ++ ring_links w.part.nodes w.part.store) id
+      ∙ is_in-right more (searched_links w) id
+      (is_in-right (tree_links w.tree.branches) (match_links w.part.matching.matches ++ ring_links w.part.nodes w.part.store) id
       (is_in-right (match_links w.part.matching.matches) (ring_links w.part.nodes w.part.store) id
       (ap (λ l. is_in l id) rings_are
-      ∙ is_in-right front (ring_at w.part.store name ++ back) id (is_in-left (ring_at w.part.store name) back id there)))
+      ∙ is_in-right front (ring_at w.part.store name ++ back) id (is_in-left (ring_at w.part.store name) back id there))))
 
   pub way_linked : AreLinkedOn w.part.links way
   way_linked =

@@ -28,7 +28,7 @@ use Rattle.fb_trees.specs.Branches.{Grown}
 use Rattle.fb_trees.specs.Replacements.{way_of}
 use Rattle.fb_obstacles.specs.Watched.{Watched}
 use Rattle.fb_search.specs.InternalOpenings.{couples_on}
-use Rattle.fb_search.specs.InternalSearching.{IsSearching, SearchValue, problem_of}
+use Rattle.fb_search.specs.InternalSearching.{SearchValue, problem_of}
 use Rattle.fb_search.proofs.Agreed.{nodes_of}
 use Rattle.fb_search.proofs.OpenedConditions.{children_are, couples_named, cycle, many, nest, not_child, parted, rest, way, way_named}
 use Rattle.fb_search.proofs.OpenedNames.{along_before, along_beside, along_way, names_opened}
@@ -36,7 +36,7 @@ use Rattle.fb_search.proofs.OpenedNumbers.{branches_are, links_kept}
 use Rattle.fb_search.proofs.OpenedSplits.{child_live, child_outer, cover_stays, outer_back, stays_live, stays_outer}
 use Rattle.fb_search.proofs.OpenedStates.{law_cycle}
 use Rattle.fb_search.proofs.OpenedWays.{couple_by, mate_of}
-use Rattle.fb_search.proofs.Openings.{HasOpened, Opens}
+use Rattle.fb_search.proofs.Openings.{HasOpened, IsOpening, Opens}
 use Rattle.fb_graph.proofs.Floods.{is_in-both, is_in-left, is_in-right}
 use Rattle.fb_links.proofs.MovedLinks.{Table}
 use Rattle.fb_half.specs.declared.seams.Seams.{Seams}
@@ -69,7 +69,7 @@ second_is (s ∷ []) m a = absurd a
 second_is (s ∷ t ∷ ss) m (inl same) = subst (λ x. x.second ≡ Some (mate_of x.second)) same refl
 second_is (s ∷ t ∷ ss) m (inr a) = second_is ss m a
 
-module _ (w : SearchValue) (name : ℕ) (e : EntryOf ℕ) (above below : ℕ) (are : IsSearching w)
+module _ {more : List ℕ} (w : SearchValue) (name : ℕ) (e : EntryOf ℕ) (above below : ℕ) (are : IsOpening more w)
     (opens : Opens w name e above below) (links : Table) (store : List (Option blossoms.Node)) (tree : Grown) (watched : Watched)
     (has : HasOpened w name above below links store tree watched) where
   abbrev Cycle : List ℕ

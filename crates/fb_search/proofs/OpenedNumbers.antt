@@ -1,7 +1,9 @@
 -- The tree and the numbers of the live links after a minus blossom is opened.
-use Rattle.std.proofs.Common.{ℕ, ◌≡◌, List, ◌∷◌, ◌++◌, Option, sym, ap, ◌∙◌, subst}
+use Rattle.std.proofs.Common.{ℕ, ◌≡◌, List, ◌∷◌, ◌++◌, Option, append_assoc, sym, ap, ◌∙◌, subst}
 use Rattle.std.specs.List.Sorted.{IsPermutation}
 use Rattle.std.proofs.lemmas.List.{map-append}
+use Rattle.std.proofs.lemmas.List.Sorted.{IsPermutation-append_right}
+use Rattle.fb_graph.proofs.Floods.{is_in-right}
 use Rattle.fb_graph.specs.Certificate.{AreDistinct}
 use Rattle.fb_graph.specs.Moves.{split_nodes}
 use Rattle.fb_links.specs.declared.cycle.CycleStep.{CycleStep}
@@ -18,15 +20,15 @@ use Rattle.fb_trees.specs.Replacements.{first_node, way_of}
 use Rattle.fb_trees.proofs.Mapped.{names_moved}
 use Rattle.fb_obstacles.specs.Watched.{Watched}
 use Rattle.fb_search.specs.InternalOpenings.{couples_on, links_left}
-use Rattle.fb_search.specs.InternalSearching.{IsSearching, SearchValue, problem_of, searched_links}
+use Rattle.fb_search.specs.InternalSearching.{SearchValue, problem_of, searched_links}
 use Rattle.fb_search.proofs.Linked.{rings_split}
 use Rattle.fb_search.proofs.OpenedConditions.{nest, rest, ring_parted, way, way_first}
 use Rattle.fb_search.proofs.OpenedLinks.{AreSameLinks, link_stays, links_stay}
 use Rattle.fb_search.proofs.OpenedNames.{IsSameBranch, numbers_opened, same_branch}
-use Rattle.fb_search.proofs.Openings.{HasOpened, Opens, opened_search, round_in}
+use Rattle.fb_search.proofs.Openings.{HasOpened, IsOpening, Opens, opened_search, round_in}
 use Rattle.fb_links.proofs.MovedLinks.{Table}
 
-module _ (w : SearchValue) (name : ℕ) (e : EntryOf ℕ) (above below : ℕ) (are : IsSearching w)
+module _ {more : List ℕ} (w : SearchValue) (name : ℕ) (e : EntryOf ℕ) (above below : ℕ) (are : IsOpening more w)
     (opens : Opens w name e above below) (links : Table) (store : List (Option blossoms.Node)) (tree : Grown) (watched : Watched)
     (has : HasOpened w name above below links store tree watched) where
   abbrev Way : List CycleStep
@@ -46,7 +48,7 @@ module _ (w : SearchValue) (name : ℕ) (e : EntryOf ℕ) (above below : ℕ) (a
       same_branch w.tree.root has.grown.newer has.grown.branch has.grown.older opens.branch.newer e opens.branch.older
       (sym has.grown.was ∙ opens.branch.there) (has.grown.minus ∙ sym opens.branch.minus)
       (subst (λ t. AreDistinct (tree_names w.tree.root t)) has.grown.was
-      (subst AreDistinct (names_moved (link_by w.part.links) w.tree.root w.tree.branches) are.state.1.search.search.names))
+      (subst AreDistinct (names_moved (link_by w.part.links) w.tree.root w.tree.branches) are.search.names))
 
   -- the branches along the way take the place of the blossom's
   pub branches_are : tree.branches ≡ opened_tree opens.branch.newer e opens.branch.older above (way_of Way)
@@ -83,10 +85,20 @@ module _ (w : SearchValue) (name : ℕ) (e : EntryOf ℕ) (above below : ℕ) (a
       has.taken_off)
       (ring_parted w name e above below are opens) tree_numbers)
 
-  pub links_after : AreLinksOf (problem_of w) links (searched_links after)
+  numbers_all : IsPermutation (more ++ searched_links w) ((more ++ searched_links after) ++ Left)
+  numbers_all =
+      subst (IsPermutation (more ++ searched_links w)) (sym (append_assoc more (searched_links after) Left))
+      (IsPermutation-append_right more (searched_links w) (searched_links after ++ Left) numbers)
+
+  pub links_after : AreLinksOf (problem_of w) links (more ++ searched_links after)
   links_after =
-      links_stay (problem_of w) w.part.links links (searched_links w) (searched_links after) Left are.links numbers has.forgets
+      links_stay (problem_of w) w.part.links links (more ++ searched_links w) (more ++ searched_links after) Left are.links numbers_all
+      has.forgets
+
+  pub links_kept_all : AreSameLinks w.part.links links (more ++ searched_links after)
+  links_kept_all =
+      link_stays (problem_of w) w.part.links links (more ++ searched_links w) (more ++ searched_links after) Left are.links numbers_all
+      has.forgets
 
   pub links_kept : AreSameLinks w.part.links links (searched_links after)
-  links_kept =
-      link_stays (problem_of w) w.part.links links (searched_links w) (searched_links after) Left are.links numbers has.forgets
+  links_kept k there = links_kept_all k (is_in-right more (searched_links after) k there)

@@ -18,7 +18,9 @@ use Rattle.fb_laws.specs.PartStates.{SearchState, IsSearchState}
 use Rattle.fb_laws.specs.SearchLayers.{left_to_do}
 use Rattle.fb_laws.specs.StateOrders.{AgreeAt}
 use Rattle.fb_laws.specs.Trees.{Entry, EntryOf, roles_of}
+use Rattle.fb_laws.specs.StateOpenings.{opened_state}
 use Rattle.fb_laws.proofs.StateMeasures.{opened_less}
+use Rattle.fb_laws.proofs.StateOpenings as law
 use Rattle.fb_laws.proofs.StateOrders.{search_reordered}
 use Rattle.fb_half.specs.Matchings.{match_links}
 use Rattle.fb_half.specs.Translations.{cycles_by, entry_by, link_by, ring_at, ring_links}
@@ -31,9 +33,9 @@ use Rattle.fb_search.specs.InternalSearching.{IsSearching, SearchValue, problem_
 use Rattle.fb_search.proofs.OpenedConditions.{rest, way}
 use Rattle.fb_search.proofs.OpenedLinks.{entries_same, links_same, ring_among}
 use Rattle.fb_search.proofs.OpenedNumbers.{after, branches_are, links_kept}
-use Rattle.fb_search.proofs.OpenedStates.{couples, law_cycle, law_state, may_split, moved, passes, tree_was}
+use Rattle.fb_search.proofs.OpenedStates.{couples, law_cycle, may_split, moved, passes, tree_was}
 use Rattle.fb_search.proofs.OpenedWays.{couples_links}
-use Rattle.fb_search.proofs.Openings.{HasOpened, Opens}
+use Rattle.fb_search.proofs.Openings.{HasOpened, Opens, opening_of}
 use Rattle.fb_search.proofs.Runs.{roles_by_numbers}
 use Rattle.fb_links.proofs.MovedLinks.{Table}
 use Rattle.fb_graph.proofs.Floods.{is_in-left, is_in-right}
@@ -46,13 +48,13 @@ module _ (w : SearchValue) (name : ℕ) (e : EntryOf ℕ) (above below : ℕ) (a
     (opens : Opens w name e above below) (links : Table) (store : List (Option blossoms.Node)) (tree : Grown) (watched : Watched)
     (has : HasOpened w name above below links store tree watched) where
   abbrev Way : List CycleStep
-  Way = way w name e above below are opens
+  Way = way w name e above below (opening_of w are) opens
 
   abbrev Rest : List CycleStep
-  Rest = rest w name e above below are opens
+  Rest = rest w name e above below (opening_of w are) opens
 
   abbrev After : SearchValue
-  After = after w name e above below are opens links store tree watched has
+  After = after w name e above below (opening_of w are) opens links store tree watched has
 
   abbrev before : SearchState
   before = state_at w are.state.0
@@ -65,12 +67,24 @@ module _ (w : SearchValue) (name : ℕ) (e : EntryOf ℕ) (above below : ℕ) (a
   abbrev new_rest : List Link
   new_rest = map (link_by links) (match_links (w.part.matching.matches ++ couples_on Rest))
 
-  law_tree : opened_tree (moved w name e above below are opens opens.branch.newer) (entry_by w.part.links e)
-      (moved w name e above below are opens opens.branch.older) above (passes w name e above below are opens)
+  -- the state by the laws
+  law_state : IsSearchState (problem_of w)
+      (opened_state (moved w name e above below (opening_of w are) opens opens.branch.newer)
+      (moved w name e above below (opening_of w are) opens opens.branch.older) (entry_by w.part.links e) above
+      (passes w name e above below (opening_of w are) opens) (couples w name e above below (opening_of w are) opens) before)
+  law_state =
+      law.state_opened (problem_of w) before (moved w name e above below (opening_of w are) opens opens.branch.newer)
+      (moved w name e above below (opening_of w are) opens opens.branch.older) (entry_by w.part.links e) above
+      (passes w name e above below (opening_of w are) opens) (couples w name e above below (opening_of w are) opens)
+      (tree_was w name e above below (opening_of w are) opens) (may_split w name e above below (opening_of w are) opens)
+      (law_cycle w name e above below (opening_of w are) opens) are.state.1
+
+  law_tree : opened_tree (moved w name e above below (opening_of w are) opens opens.branch.newer) (entry_by w.part.links e)
+      (moved w name e above below (opening_of w are) opens opens.branch.older) above (passes w name e above below (opening_of w are) opens)
       ≡ map (entry_by w.part.links) tree.branches
   law_tree =
       opened_moved (link_by w.part.links) opens.branch.newer opens.branch.older e above (way_of Way)
-      ∙ ap (map (entry_by w.part.links)) (sym (branches_are w name e above below are opens links store tree watched has))
+      ∙ ap (map (entry_by w.part.links)) (sym (branches_are w name e above below (opening_of w are) opens links store tree watched has))
 
   by_law : IsSearchState (problem_of w)
       (state_with (split_nodes name w.part.nodes) (cycles_by w.part.links w.part.store) (map (entry_by w.part.links) tree.branches)
@@ -91,11 +105,11 @@ module _ (w : SearchValue) (name : ℕ) (e : EntryOf ℕ) (above below : ℕ) (a
       (λ r.
       IsSearchState (problem_of w)
       (state_with (split_nodes e.minus w.part.nodes) (cycles_by w.part.links w.part.store)
-      (opened_tree (moved w name e above below are opens opens.branch.newer) (entry_by w.part.links e)
-      (moved w name e above below are opens opens.branch.older) above (passes w name e above below are opens))
+      (opened_tree (moved w name e above below (opening_of w are) opens opens.branch.newer) (entry_by w.part.links e)
+      (moved w name e above below (opening_of w are) opens opens.branch.older) above (passes w name e above below (opening_of w are) opens))
       (r ++ map (link_by w.part.links) (match_links w.part.matching.matches)) w.tree.root before))
       (couples_links (link_by w.part.links) (couples_on Rest))
-      (law_state w name e above below are opens)))
+      law_state))
 
   -- the links that are read are as they were
   rest_moved : IsPermutation old_rest new_rest
@@ -105,7 +119,7 @@ module _ (w : SearchValue) (name : ℕ) (e : EntryOf ℕ) (above below : ℕ) (a
       ∙ (ap (map (link_by w.part.links)) (sym (map-append (λ m. m.link) w.part.matching.matches (couples_on Rest)))
       ∙ sym (links_same w.part.links links (match_links (w.part.matching.matches ++ couples_on Rest))
       (λ k there.
-      links_kept w name e above below are opens links store tree watched has k
+      links_kept w name e above below (opening_of w are) opens links store tree watched has k
       (is_in-right (tree_links tree.branches)
       (match_links (w.part.matching.matches ++ couples_on Rest) ++ ring_links (split_nodes name w.part.nodes) store) k
       (is_in-left (match_links (w.part.matching.matches ++ couples_on Rest)) (ring_links (split_nodes name w.part.nodes) store) k there))))))
@@ -118,7 +132,7 @@ module _ (w : SearchValue) (name : ℕ) (e : EntryOf ℕ) (above below : ℕ) (a
       let other : n ≢ name = λ same. (among_split name w.part.nodes m a).1 (named ∙ same) in
       links_same w.part.links links (ring_at store n)
       (λ k there.
-      links_kept w name e above below are opens links store tree watched has k
+      links_kept w name e above below (opening_of w are) opens links store tree watched has k
       (is_in-right (tree_links tree.branches)
       (match_links (w.part.matching.matches ++ couples_on Rest) ++ ring_links (split_nodes name w.part.nodes) store) k
       (is_in-right (match_links (w.part.matching.matches ++ couples_on Rest)) (ring_links (split_nodes name w.part.nodes) store) k
@@ -130,7 +144,7 @@ module _ (w : SearchValue) (name : ℕ) (e : EntryOf ℕ) (above below : ℕ) (a
   entries_kept =
       sym (entries_same w.part.links links tree.branches
       (λ k there.
-      links_kept w name e above below are opens links store tree watched has k
+      links_kept w name e above below (opening_of w are) opens links store tree watched has k
       (is_in-left (tree_links tree.branches)
       (match_links (w.part.matching.matches ++ couples_on Rest) ++ ring_links (split_nodes name w.part.nodes) store) k there)))
 
@@ -173,12 +187,12 @@ module _ (w : SearchValue) (name : ℕ) (e : EntryOf ℕ) (above below : ℕ) (a
       IsLower
       (left_to_do (problem_of w) (split_nodes n w.part.nodes)
       (roles_of w.tree.root
-      (opened_tree (moved w name e above below are opens opens.branch.newer) (entry_by w.part.links e)
-      (moved w name e above below are opens opens.branch.older) above (passes w name e above below are opens))) freed)
+      (opened_tree (moved w name e above below (opening_of w are) opens opens.branch.newer) (entry_by w.part.links e)
+      (moved w name e above below (opening_of w are) opens opens.branch.older) above (passes w name e above below (opening_of w are) opens))) freed)
       (left_to_do (problem_of w) w.part.nodes (roles_of w.tree.root (map (entry_by w.part.links) w.tree.branches)) free))
       opens.branch.minus
-      (opened_less (problem_of w) before (moved w name e above below are opens opens.branch.newer)
-      (moved w name e above below are opens opens.branch.older) (entry_by w.part.links e) above
-      (passes w name e above below are opens) (couples w name e above below are opens) free freed
-      (tree_was w name e above below are opens) (may_split w name e above below are opens)
-      (law_cycle w name e above below are opens) are.state.1)))
+      (opened_less (problem_of w) before (moved w name e above below (opening_of w are) opens opens.branch.newer)
+      (moved w name e above below (opening_of w are) opens opens.branch.older) (entry_by w.part.links e) above
+      (passes w name e above below (opening_of w are) opens) (couples w name e above below (opening_of w are) opens) free freed
+      (tree_was w name e above below (opening_of w are) opens) (may_split w name e above below (opening_of w are) opens)
+      (law_cycle w name e above below (opening_of w are) opens) are.state.1)))

@@ -1,4 +1,4 @@
--- The state of a search after a minus blossom is opened.
+-- The way between two children of a minus blossom that is opened, as the laws see it.
 use Rattle.std.proofs.Common.{ℕ, ◌≡◌, List, ◌∷◌, ◌++◌, map, get_or, sym, ap, ◌∙◌, subst}
 use Rattle.std.proofs.lemmas.List.{map-append}
 use Rattle.fb_graph.specs.Moves.{MaySplit, split_nodes}
@@ -6,27 +6,24 @@ use Rattle.fb_graph.proofs.Among.{All_among, among_All}
 use Rattle.fb_links.specs.declared.cycle.CycleStep.{CycleStep}
 use Rattle.fb_laws.specs.OpenedCycles.{Couple, IsOpenedCycle, Pass}
 use Rattle.fb_laws.specs.OpenedLinks.{round_from}
-use Rattle.fb_laws.specs.PartStates.{SearchState, IsSearchState}
+use Rattle.fb_laws.specs.PartStates.{SearchState}
 use Rattle.fb_laws.specs.RingWays.{couples_after, round_at, way_to}
-use Rattle.fb_laws.specs.StateOpenings.{opened_state}
 use Rattle.fb_laws.specs.StateRings.{MayOpenAlong}
 use Rattle.fb_laws.specs.Trees.{Connects, Entry, EntryOf}
-use Rattle.fb_laws.proofs.StateOpenings.{state_opened}
-use Rattle.fb_laws.proofs.StateRings.{cycle_along}
 use Rattle.fb_half.specs.Translations.{cycles_by, entry_by, link_by}
 use Rattle.fb_trees.specs.Replacements.{way_of}
 use Rattle.fb_trees.specs.TreeLinks.{map_pass}
 use Rattle.fb_search.specs.InternalOpenings.{couples_on, place_on, round_on}
-use Rattle.fb_search.specs.InternalSearching.{IsSearching, SearchValue, problem_of, state_at}
+use Rattle.fb_search.specs.InternalSearching.{SearchValue, problem_of, state_at}
 use Rattle.fb_search.proofs.Agreed.{nodes_of}
 use Rattle.fb_search.proofs.OpenedAlong.{couples_is, from_is, steps_within, to_is, way_is}
 use Rattle.fb_search.proofs.OpenedConditions.{above_on, below_on, children_are, cycle, many, odd, rest, way}
 use Rattle.fb_search.proofs.OpenedPlaces.{place_within}
 use Rattle.fb_search.proofs.OpenedWays.{couple_by}
-use Rattle.fb_search.proofs.Openings.{Opens}
+use Rattle.fb_search.proofs.Openings.{IsOpening, Opens}
 use Rattle.fb_laws.proofs.SearchTrees.{connects_sym}
 
-module _ (w : SearchValue) (name : ℕ) (e : EntryOf ℕ) (above below : ℕ) (are : IsSearching w)
+module _ {more : List ℕ} (w : SearchValue) (name : ℕ) (e : EntryOf ℕ) (above below : ℕ) (are : IsOpening more w)
     (opens : Opens w name e above below) where
   abbrev Cycle : List CycleStep
   Cycle = cycle w name e above below are opens
@@ -38,7 +35,7 @@ module _ (w : SearchValue) (name : ℕ) (e : EntryOf ℕ) (above below : ℕ) (a
   Rest = rest w name e above below are opens
 
   abbrev before : SearchState
-  before = state_at w are.state.0
+  before = state_at w are.parity
 
   abbrev pub moved : List (EntryOf ℕ) → List Entry
   moved es = map (entry_by w.part.links) es
@@ -124,12 +121,5 @@ module _ (w : SearchValue) (name : ℕ) (e : EntryOf ℕ) (above below : ℕ) (a
       w.part.matching.unmatched)
       (from_is Cycle above below (many w name e above below are opens).distinct (odd w name e above below are opens)
       (above_on w name e above below are opens) (below_on w name e above below are opens))
-      (cycle_along (problem_of w) before (moved opens.branch.newer) (moved opens.branch.older) (entry_by w.part.links e)
-      (nodes_of Cycle) place steps are.state.1 may_along)))
-
-  -- the state by the laws
-  pub law_state : IsSearchState (problem_of w)
-      (opened_state (moved opens.branch.newer) (moved opens.branch.older) (entry_by w.part.links e) above passes couples before)
-  law_state =
-      state_opened (problem_of w) before (moved opens.branch.newer) (moved opens.branch.older) (entry_by w.part.links e) above passes
-      couples tree_was may_split law_cycle are.state.1
+      (are.along (moved opens.branch.newer) (moved opens.branch.older) (entry_by w.part.links e) (nodes_of Cycle) place steps
+      may_along)))

@@ -16,10 +16,12 @@ use Rattle.fb_blossoms.specs.Nodes as blossoms
 use Rattle.fb_graph.proofs.SplitNests.{height}
 use Rattle.fb_laws.specs.OpenedCycles.{PassOf, last_of, opened_branches, opened_tree, paired_on}
 use Rattle.fb_laws.specs.Trees.{EntryOf, minus_names, plus_names}
-use Rattle.fb_laws.proofs.SearchTrees.{cover_set}
+use Rattle.fb_laws.proofs.SearchTrees.{cover_place, cover_set}
 use Rattle.fb_trees.specs.Branches.{Grown}
 use Rattle.fb_trees.specs.Replacements.{way_of}
-use Rattle.fb_obstacles.specs.Obstacles.{IsWatched, slack_at}
+use Rattle.fb_regions.specs.declared.roles.Role.{Role}
+use Rattle.fb_trees.specs.Rooted.{role_in}
+use Rattle.fb_obstacles.specs.Obstacles.{IsWatched, grows, roles_by, shrinks, slack_at}
 use Rattle.fb_obstacles.specs.Watched.{AreBounded, Watched}
 use Rattle.fb_search.specs.InternalSearching.{IsSearching, SearchValue, problem_of, roles_in}
 use Rattle.fb_search.proofs.Agreed.{nodes_of}
@@ -30,10 +32,9 @@ use Rattle.fb_search.proofs.KeptWatches.{IsWatchedAt}
 use Rattle.fb_search.proofs.OpenedConditions.{children_are, cycle, inner, nest, way, way_named, way_opens, way_within}
 use Rattle.fb_search.proofs.OpenedNumbers.{after, branches_are}
 use Rattle.fb_search.proofs.OpenedSplits.{cover_stays}
-use Rattle.fb_search.proofs.Openings.{HasOpened, Opens}
-use Rattle.fb_search.proofs.RolesInTree.{minus_in_tree, minus_not_plus, minus_role, plus_in_tree}
+use Rattle.fb_search.proofs.Openings.{HasOpened, IsOpening, Opens, opening_of}
+use Rattle.fb_search.proofs.RolesInTree.{minus_in_tree, minus_not_plus, minus_role, not_both, plus_in_tree}
 use Rattle.fb_search.proofs.Runs.{tree_roles}
-use Rattle.fb_search.proofs.SearchRoles.{outer_live}
 use Rattle.fb_search.proofs.AttachedBranches.{plus_role}
 use Rattle.fb_links.proofs.MovedLinks.{Table}
 use Rattle.fb_graph.proofs.Floods.{is_in-left, is_in-right}
@@ -180,20 +181,54 @@ minus_opened (x ∷ xs) e older from way n other there =
         (is_in-head x.minus (minus_names (opened_tree xs e older from way)))
     by (inr h) rest = is_in-tail x.minus (minus_names (opened_tree xs e older from way)) n (rest h)
 
-module _ (w : SearchValue) (name : ℕ) (e : EntryOf ℕ) (above below : ℕ) (are : IsSearching w)
+module _ {more : List ℕ} (w : SearchValue) (name : ℕ) (e : EntryOf ℕ) (above below : ℕ) (are : IsOpening more w)
     (opens : Opens w name e above below) (links : Table) (store : List (Option blossoms.Node)) (tree : Grown) (watched : Watched)
     (has : HasOpened w name above below links store tree watched) where
-  abbrev Cycle : List ℕ
-  Cycle = nodes_of (cycle w name e above below are opens)
-
   abbrev Way : List CycleStep
   Way = way w name e above below are opens
 
+  -- an outer node that is plus now was plus before
+  pub plus_was : (n : ℕ) → is_outer w.part.nodes n ≡ true → is_in (plus_names tree.root tree.branches) n ≡ true
+      → is_in (plus_names w.tree.root w.tree.branches) n ≡ true
+  plus_was n outer plus =
+      by
+      (plus_opened w.tree.root opens.branch.newer e opens.branch.older above (way_of Way) n
+      (ap (λ t. is_in (plus_names w.tree.root t) n)
+      (sym (branches_are w name e above below are opens links store tree watched has))
+      ∙ (ap (λ r. is_in (plus_names r tree.branches) n) (sym has.grown.root) ∙ plus)))
+    where
+      by : (is_in (plus_names w.tree.root (opens.branch.newer ++ e ∷ opens.branch.older)) n ≡ true)
+          ⊎ (is_in (map (λ s. s.plus) (way_of Way)) n ≡ true) → is_in (plus_names w.tree.root w.tree.branches) n ≡ true
+      by (inl h) = ap (λ t. is_in (plus_names w.tree.root t) n) opens.branch.there ∙ h
+      by (inr h) =
+          absurd
+          (both_ways (is_outer w.part.nodes n)
+          (inner w name e above below are opens n
+          (way_within w name e above below are opens n
+          (ap (λ l. is_in l n) (way_named w name e above below are opens)
+          ∙ is_in-left (paired_on above (way_of Way)) (last_of above (way_of Way) ∷ []) n (plus_on_way above (way_of Way) n h))))
+          outer)
+
+  -- one that was minus still is, but for the blossom
+  pub minus_now : (n : ℕ) → n ≢ name → is_in (minus_names w.tree.branches) n ≡ true → is_in (minus_names tree.branches) n ≡ true
+  minus_now n other minus =
+      ap (λ t. is_in (minus_names t) n) (branches_are w name e above below are opens links store tree watched has)
+      ∙ minus_opened opens.branch.newer e opens.branch.older above (way_of Way) n (λ same. other (same ∙ opens.branch.minus))
+      (ap (λ t. is_in (minus_names t) n) (sym opens.branch.there) ∙ minus)
+
+-- The roles of nodes before and after the blossom is opened: no outer node becomes plus, and those that are minus stay so.
+module _ {more : List ℕ} (w : SearchValue) (name : ℕ) (e : EntryOf ℕ) (above below : ℕ) (are : IsOpening more w)
+    (opens : Opens w name e above below) (links : Table) (store : List (Option blossoms.Node)) (tree : Grown) (watched : Watched)
+    (has : HasOpened w name above below links store tree watched) (before after_it : ℕ → Role)
+    (plus_from : (n : ℕ) → is_outer w.part.nodes n ≡ true → grows (after_it n) ≡ true → grows (before n) ≡ true)
+    (minus_stays : (n : ℕ) → is_outer w.part.nodes n ≡ true → n ≢ name → shrinks (before n) ≡ true
+    → shrinks (after_it n) ≡ true)
+    (minus : shrinks (before name) ≡ true) where
+  abbrev Cycle : List ℕ
+  Cycle = nodes_of (cycle w name e above below are opens)
+
   abbrev Others : List Node
   Others = split_nodes name w.part.nodes
-
-  abbrev After : SearchValue
-  After = after w name e above below are opens links store tree watched has
 
   -- the blossom held the vertex
   abbrev WasHeld : ℕ → Type 0
@@ -221,67 +256,30 @@ module _ (w : SearchValue) (name : ℕ) (e : EntryOf ℕ) (above below : ℕ) (a
           (children_are w name e above below are opens) v n cover (λ same. away (held_by v n cover same))
           ∙ sym cover
 
-  -- an outer node that is plus now was plus before
-  plus_was : (n : ℕ) → is_outer w.part.nodes n ≡ true → is_in (plus_names tree.root tree.branches) n ≡ true
-      → is_in (plus_names w.tree.root w.tree.branches) n ≡ true
-  plus_was n outer plus =
-      by
-      (plus_opened w.tree.root opens.branch.newer e opens.branch.older above (way_of Way) n
-      (ap (λ t. is_in (plus_names w.tree.root t) n)
-      (sym (branches_are w name e above below are opens links store tree watched has))
-      ∙ (ap (λ r. is_in (plus_names r tree.branches) n) (sym has.grown.root) ∙ plus)))
-    where
-      by : (is_in (plus_names w.tree.root (opens.branch.newer ++ e ∷ opens.branch.older)) n ≡ true)
-          ⊎ (is_in (map (λ s. s.plus) (way_of Way)) n ≡ true) → is_in (plus_names w.tree.root w.tree.branches) n ≡ true
-      by (inl h) = ap (λ t. is_in (plus_names w.tree.root t) n) opens.branch.there ∙ h
-      by (inr h) =
-          absurd
-          (both_ways (is_outer w.part.nodes n)
-          (inner w name e above below are opens n
-          (way_within w name e above below are opens n
-          (ap (λ l. is_in l n) (way_named w name e above below are opens)
-          ∙ is_in-left (paired_on above (way_of Way)) (last_of above (way_of Way) ∷ []) n (plus_on_way above (way_of Way) n h))))
-          outer)
+  outer_over : (v n : ℕ) → cover_of w.part.nodes v ≡ Some n → is_outer w.part.nodes n ≡ true
+  outer_over v n cover = let (i, less, named, outer, within) = cover_place w.part.nodes v n cover in outer
 
-  -- and one that was minus still is, but for the blossom
-  minus_still : (n : ℕ) → is_outer w.part.nodes n ≡ true → n ≢ name → (roles_in w).is_minus n ≡ true
-      → (roles_in After).is_minus n ≡ true
-  minus_still n outer other minus =
-      let not_plus : is_in (plus_names tree.root tree.branches) n ≡ false =
-      false_from_ne_true (is_in (plus_names tree.root tree.branches) n)
-      (λ plus.
-      both_ways (is_in (plus_names w.tree.root w.tree.branches) n) (minus_not_plus w.tree n minus) (plus_was n outer plus)) in
-      minus_role tree n not_plus
-      (ap (λ t. is_in (minus_names t) n) (branches_are w name e above below are opens links store tree watched has)
-      ∙ minus_opened opens.branch.newer e opens.branch.older above (way_of Way) n (λ same. other (same ∙ opens.branch.minus))
-      (ap (λ t. is_in (minus_names t) n) (sym opens.branch.there) ∙ minus_in_tree w.tree n minus))
-
-  milder_opened : (v : ℕ) → ¬ WasHeld v → IsMilder (roles_in w) (roles_in After) w.part.nodes Others v
+  milder_opened : (v : ℕ) → ¬ WasHeld v → IsMilder (roles_by before) (roles_by after_it) w.part.nodes Others v
   milder_opened v away =
-      milder_under (roles_in w) (roles_in After) w.part.nodes Others v (same_cover v away)
-      (λ n cover plus. plus_role w.tree n (plus_was n (outer_live w are v n cover).1 (plus_in_tree tree n plus)))
-      (λ n cover minus. minus_still n (outer_live w are v n cover).1 (λ same. away (held_by v n cover same)) minus)
+      milder_under (roles_by before) (roles_by after_it) w.part.nodes Others v (same_cover v away)
+      (λ n cover plus. plus_from n (outer_over v n cover) plus)
+      (λ n cover minus. minus_stays n (outer_over v n cover) (λ same. away (held_by v n cover same)) minus)
 
-  together : (u v : ℕ) → is_covered_by (roles_in w).is_plus w.part.nodes u ≡ true → AreUnderOne w.part.nodes u v
+  together : (u v : ℕ) → is_covered_by (roles_by before).is_plus w.part.nodes u ≡ true → AreUnderOne w.part.nodes u v
       → AreUnderOne Others u v
   together u v over (m, at_u, at_v) = (m, stays u at_u, stays v at_v)
     where
-      plus : is_in (plus_names w.tree.root w.tree.branches) m ≡ true
-      plus = plus_in_tree w.tree m (sym (ap (passes (roles_in w).is_plus) at_u) ∙ over)
-
       other : m ≢ name
       other same =
-          false≢true
-          (sym ((tree_roles w are).exclusive m plus)
-          ∙ (ap (is_in (minus_names w.tree.branches)) same ∙ (way_opens w name e above below are opens).minus))
+          not_both (before name) (ap (λ n. grows (before n)) (sym same) ∙ (sym (ap (passes (roles_by before).is_plus) at_u) ∙ over)) minus
 
       stays : (x : ℕ) → cover_of w.part.nodes x ≡ Some m → cover_of Others x ≡ Some m
       stays x at =
           cover_stays (problem_of w) w.part.nodes name Cycle opens.may_split (nest w name e above below are opens)
           (children_are w name e above below are opens) x m at other
 
-  over_now : IsWithinLimits (problem_of w) → (v : ℕ) → is_covered_by (roles_in After).is_plus Others v ≡ true
-      → (is_covered_by (roles_in w).is_plus w.part.nodes v ≡ true) ⊎ IsWatchedAt (problem_of w) Others watched.edges v
+  over_now : IsWithinLimits (problem_of w) → (v : ℕ) → is_covered_by (roles_by after_it).is_plus Others v ≡ true
+      → (is_covered_by (roles_by before).is_plus w.part.nodes v ≡ true) ⊎ IsWatchedAt (problem_of w) Others watched.edges v
   over_now limits v over = by (cases_Bool (is_in (top_at w.part.nodes name) v))
     where
       touch : (k : ℕ) → k < length (problem_of w).edges
@@ -293,22 +291,65 @@ module _ (w : SearchValue) (name : ℕ) (e : EntryOf ℕ) (above below : ℕ) (a
           ap (λ u. touches u (edge_at (problem_of w).edges k)) (sym same) ∙ touches_second (problem_of w) k limits less
 
       by : WasHeld v ⊎ (is_in (top_at w.part.nodes name) v ≡ false)
-          → (is_covered_by (roles_in w).is_plus w.part.nodes v ≡ true)
+          → (is_covered_by (roles_by before).is_plus w.part.nodes v ≡ true)
           ⊎ IsWatchedAt (problem_of w) Others watched.edges v
       by (inl held) = inr (λ k less ends apart. has.watches.near v k held less (touch k less ends))
       by (inr out) = inl ((milder_opened v (λ held. both_ways (is_in (top_at w.part.nodes name) v) out held)).plus over)
 
-  pub watch_opened : IsWithinLimits (problem_of w) → IsWatched (problem_of w) (roles_in After) Others watched.edges
-  watch_opened limits =
-      watch_kept_over (problem_of w) (roles_in w) (roles_in After) w.part.nodes Others w.watched.edges watched.edges are.watch
-      (subst (λ n. All (λ k. k < n) watched.edges) (has.watches.room ∙ are.room) has.within) has.watches.kept
+  pub watch_split : IsWithinLimits (problem_of w) → w.watched.edge_count ≡ length (problem_of w).edges
+      → IsWatched (problem_of w) (roles_by before) w.part.nodes w.watched.edges
+      → IsWatched (problem_of w) (roles_by after_it) Others watched.edges
+  watch_split limits room was =
+      watch_kept_over (problem_of w) (roles_by before) (roles_by after_it) w.part.nodes Others w.watched.edges watched.edges was
+      (subst (λ n. All (λ k. k < n) watched.edges) (has.watches.room ∙ room) has.within) has.watches.kept
       (over_now limits) together
 
-  pub bounded_opened : AreBounded (slack_at (problem_of w) (roles_in After) Others) watched
-  bounded_opened =
-      has.watches.bounds (slack_at (problem_of w) (roles_in w) w.part.nodes) (slack_at (problem_of w) (roles_in After) Others)
+  pub bounded_split : AreBounded (slack_at (problem_of w) (roles_by before) w.part.nodes) w.watched
+      → AreBounded (slack_at (problem_of w) (roles_by after_it) Others) watched
+  bounded_split =
+      has.watches.bounds (slack_at (problem_of w) (roles_by before) w.part.nodes) (slack_at (problem_of w) (roles_by after_it) Others)
       (λ k away.
-      slack_away (roles_in w) (roles_in After) w.part.nodes Others WasHeld (edge_at (problem_of w).edges k)
+      slack_away (roles_by before) (roles_by after_it) w.part.nodes Others WasHeld (edge_at (problem_of w).edges k)
       (height (problem_of w) w.part.nodes name opens.may_split (nest w name e above below are opens)) milder_opened
       (λ u v at_u at_v one. (one.0, same_cover u at_u ∙ one.1, same_cover v at_v ∙ one.2)) away)
-      are.bounds
+
+module _ (w : SearchValue) (name : ℕ) (e : EntryOf ℕ) (above below : ℕ) (are : IsSearching w)
+    (opens : Opens w name e above below) (links : Table) (store : List (Option blossoms.Node)) (tree : Grown) (watched : Watched)
+    (has : HasOpened w name above below links store tree watched) where
+  abbrev After : SearchValue
+  After = after w name e above below (opening_of w are) opens links store tree watched has
+
+  plus_before : (n : ℕ) → is_outer w.part.nodes n ≡ true → grows (role_in tree n) ≡ true → grows (role_in w.tree n) ≡ true
+  plus_before n outer plus =
+      plus_role w.tree n
+      (plus_was w name e above below (opening_of w are) opens links store tree watched has n outer (plus_in_tree tree n plus))
+
+  minus_still : (n : ℕ) → is_outer w.part.nodes n ≡ true → n ≢ name → shrinks (role_in w.tree n) ≡ true
+      → shrinks (role_in tree n) ≡ true
+  minus_still n outer other minus =
+      minus_role tree n
+      (false_from_ne_true (is_in (plus_names tree.root tree.branches) n)
+      (λ plus.
+      both_ways (is_in (plus_names w.tree.root w.tree.branches) n) (minus_not_plus w.tree n minus)
+      (plus_was w name e above below (opening_of w are) opens links store tree watched has n outer plus)))
+      (minus_now w name e above below (opening_of w are) opens links store tree watched has n other (minus_in_tree w.tree n minus))
+
+  is_minus : shrinks (role_in w.tree name) ≡ true
+  is_minus =
+      minus_role w.tree name
+      (false_from_ne_true (is_in (plus_names w.tree.root w.tree.branches) name)
+      (λ plus.
+      both_ways (is_in (minus_names w.tree.branches) name) ((tree_roles w are).exclusive name plus)
+      (way_opens w name e above below (opening_of w are) opens).minus))
+      (way_opens w name e above below (opening_of w are) opens).minus
+
+  pub watch_opened : IsWithinLimits (problem_of w)
+      → IsWatched (problem_of w) (roles_in After) (split_nodes name w.part.nodes) watched.edges
+  watch_opened limits =
+      watch_split w name e above below (opening_of w are) opens links store tree watched has (role_in w.tree) (role_in tree)
+      plus_before minus_still is_minus limits are.room are.watch
+
+  pub bounded_opened : AreBounded (slack_at (problem_of w) (roles_in After) (split_nodes name w.part.nodes)) watched
+  bounded_opened =
+      bounded_split w name e above below (opening_of w are) opens links store tree watched has (role_in w.tree) (role_in tree)
+      plus_before minus_still is_minus are.bounds

@@ -42,7 +42,7 @@ use Rattle.fb_search.proofs.TreeEnds.{tree_hung}
 use Rattle.fb_links.proofs.MovedLinks.{Table}
 
 -- a link is forgotten before others
-forgets_more : (id : ℕ) (gone : List ℕ) (old mid new : Table) → Removes old mid id → Forgets gone mid new → Forgets (id ∷ gone) old new
+pub forgets_more : (id : ℕ) (gone : List ℕ) (old mid new : Table) → Removes old mid id → Forgets gone mid new → Forgets (id ∷ gone) old new
 forgets_more id gone old mid new removes forgets k = by (cases_eq id k)
   where
     none : (b : Bool) → cond {A = Option (List Step)} b None None ≡ None

@@ -9,10 +9,11 @@ use Rattle.fb_graph.specs.Problem.{Problem}
 use Rattle.fb_graph.specs.Laws.{Link}
 use Rattle.fb_graph.specs.Dual.{AreOuterApart, Node, cover_of, is_outer}
 use Rattle.fb_graph.specs.Moves.{blossom, joined_nodes}
+use Rattle.fb_graph.specs.Nests.{IsNest}
 use Rattle.fb_graph.proofs.Among.{IsAmong, among_either, among_left, among_outer, cover_among, covered_by, outer_among}
 use Rattle.fb_graph.proofs.Sets.{is_in-cases, is_in-head, is_in-tail}
 use Rattle.fb_laws.specs.Forming.{Child, names_of}
-use Rattle.fb_laws.specs.PartStates.{SearchState, IsSearchState}
+use Rattle.fb_laws.specs.PartStates.{SearchState}
 use Rattle.fb_laws.specs.SearchBlossoms.{IsJoining, child_at, joined_tree, outer_branches, renamed_name, renamed_entry}
 use Rattle.fb_laws.specs.Searches.{IsSearch}
 use Rattle.fb_laws.specs.StateBlossoms.{MayClose}
@@ -20,7 +21,8 @@ use Rattle.fb_laws.specs.TreeCycles.{ArePaths, cycle_nodes, last_plus, nodes_alo
 use Rattle.fb_laws.specs.Trees.{Entry, EntryOf, plus_names, tree_names}
 use Rattle.fb_laws.proofs.JoinedTrees.{distinct_kept, names_kept, new_in, new_out, plus_kept}
 use Rattle.fb_laws.proofs.SearchTrees.{plus_in_tree}
-use Rattle.fb_laws.proofs.StateBlossoms.{child_in_tree, closed_joining, closed_names}
+use Rattle.fb_laws.proofs.StateBlossoms.{child_in_tree, ring_joining}
+use Rattle.fb_laws.proofs.TreeCycles.{names_at}
 use Rattle.fb_search.proofs.Cycles.{cycle_from}
 use Rattle.fb_search.proofs.Matched.{IsRenamed}
 
@@ -126,32 +128,34 @@ tree_renamed p nodes tree rest unmatched root r name base others joining search 
 
 -- so for a cycle that a link closes, whose nodes are all in the tree
 pub closed_renamed : (p : Problem) (s : SearchState) (name a b : ℕ) (closing : Link) (shared up down : List Entry)
-    → MayClose p s name a b closing → ArePaths s.tree a b shared up down → IsSearchState p s
+    → MayClose p s name a b closing → ArePaths s.tree a b shared up down → (rest : List Link) → IsNest p s.nodes
+    → IsSearch p s.nodes s.tree rest s.unmatched s.root s.parity
     → is_in (tree_names s.root s.tree) name ≡ false
     → IsRenamed (cycle_from s.root shared up down) (tree_names s.root s.tree)
     (tree_names (renamed_name (is_in (cycle_from s.root shared up down)) name s.root)
     (joined_tree (is_in (cycle_from s.root shared up down)) name s.tree)) name
-closed_renamed p s name a b closing shared up down may paths state fresh =
+closed_renamed p s name a b closing shared up down may paths rest nest search fresh =
     subst
     (λ names.
     IsRenamed (last_plus s.root shared ∷ names) (tree_names s.root s.tree)
     (tree_names (renamed_name (is_in (last_plus s.root shared ∷ names)) name s.root)
     (joined_tree (is_in (last_plus s.root shared ∷ names)) name s.tree)) name)
-    (closed_names p s name a b closing shared up down may paths state)
-    (tree_renamed p s.nodes s.tree s.rest s.unmatched s.root s.parity name
+    (names_at s.nodes (cycle_nodes up down))
+    (tree_renamed p s.nodes s.tree rest s.unmatched s.root s.parity name
     (child_at s.nodes (last_plus s.root shared)) (map (child_at s.nodes) (cycle_nodes up down))
-    (closed_joining p s name a b closing shared up down may paths state) state.search.search fresh)
+    (ring_joining p s name a b closing shared up down may paths rest nest search) search fresh)
 
 pub closed_within : (p : Problem) (s : SearchState) (name a b : ℕ) (closing : Link) (shared up down : List Entry)
-    → MayClose p s name a b closing → ArePaths s.tree a b shared up down → IsSearchState p s
+    → MayClose p s name a b closing → ArePaths s.tree a b shared up down → (rest : List Link) → IsNest p s.nodes
+    → IsSearch p s.nodes s.tree rest s.unmatched s.root s.parity
     → (n : ℕ) → is_in (cycle_from s.root shared up down) n ≡ true
     → is_in (tree_names s.root s.tree) n ≡ true
-closed_within p s name a b closing shared up down may paths state n within =
+closed_within p s name a b closing shared up down may paths rest nest search n within =
     child_in_tree s.root s.tree
     (child_at s.nodes (last_plus s.root shared) ∷ map (child_at s.nodes) (cycle_nodes up down))
-    (closed_joining p s name a b closing shared up down may paths state).in_tree n
+    (ring_joining p s name a b closing shared up down may paths rest nest search).in_tree n
     (subst (λ names. is_in (last_plus s.root shared ∷ names) n ≡ true)
-    (sym (closed_names p s name a b closing shared up down may paths state)) within)
+    (sym (names_at s.nodes (cycle_nodes up down))) within)
 
 pub along_names : {L : Type 0} (root : ℕ) (tree : List (EntryOf L)) → tree_names root tree ≡ nodes_along tree ++ root ∷ []
 along_names root [] = refl

@@ -1,5 +1,5 @@
 -- The branch of a minus node that has shrunk to its defect: its two links may be joined there, and close a cycle.
-use Rattle.std.proofs.Common.{ℕ, ◌≡◌, ◌≢◌, ◌==◌, inl, inr, true, List, [], ◌∷◌, map, All, Option, unwrap_or, refl, sym, ap, ◌∙◌, subst}
+use Rattle.std.proofs.Common.{ℕ, ◌≡◌, ◌≢◌, ◌==◌, inl, inr, true, List, [], ◌∷◌, map, All, Option, Some, unwrap_or, refl, sym, ap, ◌∙◌, subst}
 use Rattle.std.proofs.lemmas.Bool.{both_ways, eq-eqb}
 use Rattle.std.proofs.lemmas.List.Elements.{All-cons, All-nil}
 use Rattle.fb_graph.specs.Parity.{is_in}
@@ -21,11 +21,13 @@ use Rattle.fb_laws.proofs.SearchStates.{links_joined, links_left}
 use Rattle.fb_laws.proofs.SearchTrees.{connects_sym, plus_in_tree}
 use Rattle.fb_laws.proofs.TreePaths.{among_plus, tree_connects}
 use Rattle.fb_links.specs.declared.walk.Step.{Step}
-use Rattle.fb_links.specs.Table.{Adds, is_live, walk_at}
+use Rattle.fb_links.specs.Table.{Adds, is_live, link_at, walk_at}
 use Rattle.fb_links.specs.Walks.{joined_walk}
 use Rattle.fb_trees.specs.Rooted.{IsBranchAt, IsPlus}
 use Rattle.fb_trees.proofs.Mapped.{plus_moved}
-use Rattle.fb_half.specs.Parts.{kept_links}
+use Rattle.fb_half.specs.Parts.{AreStepsOf, PartValue, kept_links, problem_in}
+use Rattle.fb_trees.specs.Branches.{Grown}
+use Rattle.fb_graph.specs.Nests.{IsNest}
 use Rattle.fb_half.specs.Translations.{entry_by, link_by, link_of}
 use Rattle.fb_obstacles.specs.Obstacles.{IsZeroDefect}
 use Rattle.fb_search.specs.InternalClosings.{Closes}
@@ -59,7 +61,7 @@ branch_apart nodes root (x ∷ xs) distinct joined_walk e (inl same) =
     there = plus_in_tree root xs x.parent joined_walk.0
 
 -- one of the links
-link_among : (p : Problem) (nodes : List Node) (links : List Link) (l : Link) → AreMatchedLinks p nodes links
+pub link_among : (p : Problem) (nodes : List Node) (links : List Link) (l : Link) → AreMatchedLinks p nodes links
     → IsAmong l links → AreMatchedLinks p nodes (l ∷ [])
 link_among p nodes links l are a = record {
   tight = one (IsTightLink p (all_cuts nodes)) are.tight;
@@ -74,80 +76,84 @@ link_among p nodes links l are a = record {
     one P all = All-cons P l [] (All_among P links all l a) (All-nil P)
 
 -- the branch's links may be joined, and are then a link between its parent and its plus node
-pub record IsRounding (w : SearchValue) (e : EntryOf ℕ) : Type 0 where
-  pub first : is_live w.part.links e.tree ≡ true
-  pub second : is_live w.part.links e.matched ≡ true
-  pub plus : IsPlus w.tree e.plus
-  pub parent : IsPlus w.tree e.parent
+pub record IsRounding (part : PartValue) (tree : Grown) (e : EntryOf ℕ) : Type 0 where
+  pub first : is_live part.links e.tree ≡ true
+  pub second : is_live part.links e.matched ≡ true
+  pub plus : IsPlus tree e.plus
+  pub parent : IsPlus tree e.parent
   pub apart : e.plus ≢ e.parent
-  pub links : AreRounded (problem_of w) w.part.nodes e.parent e.plus (walk_at w.part.links e.tree)
-      (walk_at w.part.links e.matched)
+  pub links : AreRounded (problem_in part) part.nodes e.parent e.plus (walk_at part.links e.tree) (walk_at part.links e.matched)
+
+-- so in a tree, whether or not others grow beside it
+module _ (part : PartValue) (tree : Grown) (rest : List Link) (r : ℕ) (nest : IsNest (problem_in part) part.nodes)
+    (search : IsSearch (problem_in part) part.nodes (map (entry_by part.links) tree.branches) rest part.matching.unmatched
+    tree.root r)
+    (live : (id : ℕ) → is_in (tree_links tree.branches) id ≡ true → is_live part.links id ≡ true)
+    (steps : (id : ℕ) (walk : List Step) → link_at part.links id ≡ Some walk → AreStepsOf (problem_in part) walk)
+    (name : ℕ) (e : EntryOf ℕ) (zero : IsZeroDefect part.nodes name) (at : IsBranchAt tree name e) where
+  abbrev entries : List Entry
+  entries = map (entry_by part.links) tree.branches
+
+  abbrev entry : Entry
+  entry = entry_by part.links e
+
+  among : IsAmong e tree.branches
+  among = subst (IsAmong e) (sym at.there) (among_right at.newer (e ∷ at.older) e (inl refl))
+
+  listed : IsAmong entry entries
+  listed = map_among (entry_by part.links) tree.branches e among
+
+  connects : Connects part.nodes entry.tree e.parent e.minus × Connects part.nodes entry.matched e.minus e.plus
+  connects = tree_connects part.nodes tree.root entries search.joined entry listed
+
+  apart : (e.parent ≡ e.minus → ⊥) × (e.minus ≡ e.plus → ⊥) × (e.parent ≡ e.plus → ⊥)
+  apart = branch_apart part.nodes tree.root entries search.names search.joined entry listed
+
+  live_tree : is_live part.links e.tree ≡ true
+  live_tree =
+      live e.tree
+      (is_in-left (grown_links tree.branches) (paired_links tree.branches) e.tree
+      (among_any (λ id. id == e.tree) (grown_links tree.branches) e.tree
+      (map_among (λ x. x.tree) tree.branches e among) (eq-eqb e.tree e.tree refl)))
+
+  live_matched : is_live part.links e.matched ≡ true
+  live_matched =
+      live e.matched
+      (is_in-right (grown_links tree.branches) (paired_links tree.branches) e.matched
+      (among_any (λ id. id == e.matched) (paired_links tree.branches) e.matched
+      (map_among (λ x. x.matched) tree.branches e among) (eq-eqb e.matched e.matched refl)))
+
+  plus_of : (n : ℕ) → is_in (plus_names tree.root entries) n ≡ true → IsPlus tree n
+  plus_of n h = sym (ap (λ names. is_in names n) (plus_moved (link_by part.links) tree.root tree.branches)) ∙ h
+
+  pub rounding_in : IsRounding part tree e
+  rounding_in = record {
+    first = live_tree;
+    second = live_matched;
+    plus = plus_of e.plus (among_plus tree.root entries entry listed);
+    parent = plus_of e.parent (parent_plus part.nodes tree.root entries search.joined entry listed);
+    apart = λ same. apart.2 (sym same);
+    links = links_rounded (problem_in part) part.nodes (walk_at part.links e.tree) (walk_at part.links e.matched) e.parent
+        e.minus e.plus nest (subst (IsZeroDefect part.nodes) (sym at.minus) zero)
+        (links_joined (problem_in part) part.nodes (link_by part.links e.tree ∷ []) (link_by part.links e.matched ∷ [])
+        (link_among (problem_in part) part.nodes (grown_links entries) (link_by part.links e.tree) search.grown
+        (map_among (λ x. x.tree) entries entry listed))
+        (link_among (problem_in part) part.nodes (paired_links entries) (link_by part.links e.matched)
+        (links_left (problem_in part) part.nodes (paired_links entries) rest search.matching.links_are)
+        (map_among (λ x. x.matched) entries entry listed)))
+        connects.0 connects.1 apart.0 apart.1 apart.2
+        (steps e.tree (walk_at part.links e.tree) (walk_there part.links e.tree live_tree))
+        (steps e.matched (walk_at part.links e.matched) (walk_there part.links e.matched live_matched));
+  }
 
 pub rounding : (w : SearchValue) (name : ℕ) (e : EntryOf ℕ) → IsSearching w → IsZeroDefect w.part.nodes name
-    → IsBranchAt w.tree name e → IsRounding w e
-rounding w name e are zero at = record {
-  first = live_tree;
-  second = live_matched;
-  plus = plus_of e.plus (among_plus w.tree.root tree entry listed);
-  parent = plus_of e.parent (parent_plus w.part.nodes w.tree.root tree search.joined entry listed);
-  apart = λ same. apart.2 (sym same);
-  links = links_rounded (problem_of w) w.part.nodes (walk_at w.part.links e.tree) (walk_at w.part.links e.matched) e.parent
-      e.minus e.plus are.state.1.search.nest (subst (IsZeroDefect w.part.nodes) (sym at.minus) zero)
-      (links_joined (problem_of w) w.part.nodes (link_by w.part.links e.tree ∷ []) (link_by w.part.links e.matched ∷ [])
-      (link_among (problem_of w) w.part.nodes (grown_links tree) (link_by w.part.links e.tree) search.grown
-      (map_among (λ x. x.tree) tree entry listed))
-      (link_among (problem_of w) w.part.nodes (paired_links tree) (link_by w.part.links e.matched)
-      (links_left (problem_of w) w.part.nodes (paired_links tree) (state_at w are.state.0).rest search.matching.links_are)
-      (map_among (λ x. x.matched) tree entry listed)))
-      connects.0 connects.1 apart.0 apart.1 apart.2
-      (are.links.steps e.tree (walk_at w.part.links e.tree) (walk_there w.part.links e.tree live_tree))
-      (are.links.steps e.matched (walk_at w.part.links e.matched) (walk_there w.part.links e.matched live_matched));
-}
-  where
-    tree : List Entry
-    tree = map (entry_by w.part.links) w.tree.branches
-
-    entry : Entry
-    entry = entry_by w.part.links e
-
-    among : IsAmong e w.tree.branches
-    among = subst (IsAmong e) (sym at.there) (among_right at.newer (e ∷ at.older) e (inl refl))
-
-    listed : IsAmong entry tree
-    listed = map_among (entry_by w.part.links) w.tree.branches e among
-
-    search : IsSearch (problem_of w) w.part.nodes tree (state_at w are.state.0).rest w.part.matching.unmatched w.tree.root
-        are.state.0
-    search = are.state.1.search.search
-
-    connects : Connects w.part.nodes entry.tree e.parent e.minus × Connects w.part.nodes entry.matched e.minus e.plus
-    connects = tree_connects w.part.nodes w.tree.root tree search.joined entry listed
-
-    apart : (e.parent ≡ e.minus → ⊥) × (e.minus ≡ e.plus → ⊥) × (e.parent ≡ e.plus → ⊥)
-    apart = branch_apart w.part.nodes w.tree.root tree search.names search.joined entry listed
-
-    live : (id : ℕ) → is_in (tree_links w.tree.branches) id ≡ true → is_live w.part.links id ≡ true
-    live id h = are.links.live id ∙ is_in-left (tree_links w.tree.branches) (kept_links w.part) id h
-
-    live_tree : is_live w.part.links e.tree ≡ true
-    live_tree =
-        live e.tree
-        (is_in-left (grown_links w.tree.branches) (paired_links w.tree.branches) e.tree
-        (among_any (λ id. id == e.tree) (grown_links w.tree.branches) e.tree
-        (map_among (λ x. x.tree) w.tree.branches e among) (eq-eqb e.tree e.tree refl)))
-
-    live_matched : is_live w.part.links e.matched ≡ true
-    live_matched =
-        live e.matched
-        (is_in-right (grown_links w.tree.branches) (paired_links w.tree.branches) e.matched
-        (among_any (λ id. id == e.matched) (paired_links w.tree.branches) e.matched
-        (map_among (λ x. x.matched) w.tree.branches e among) (eq-eqb e.matched e.matched refl)))
-
-    plus_of : (n : ℕ) → is_in (plus_names w.tree.root tree) n ≡ true → IsPlus w.tree n
-    plus_of n h = sym (ap (λ names. is_in names n) (plus_moved (link_by w.part.links) w.tree.root w.tree.branches)) ∙ h
+    → IsBranchAt w.tree name e → IsRounding w.part w.tree e
+rounding w name e are zero at =
+    rounding_in w.part w.tree (state_at w are.state.0).rest are.state.0 are.state.1.search.nest are.state.1.search.search
+    (λ id h. are.links.live id ∙ is_in-left (tree_links w.tree.branches) (kept_links w.part) id h) are.links.steps name e zero at
 
 -- the joined link made
-module _ (w : SearchValue) (e : EntryOf ℕ) (id : ℕ) (new : List (Option (List Step))) (is : IsRounding w e)
+module _ (w : SearchValue) (e : EntryOf ℕ) (id : ℕ) (new : List (Option (List Step))) (is : IsRounding w.part w.tree e)
     (adds : Adds w.part.links new id (joined_walk (walk_at w.part.links e.tree) (walk_at w.part.links e.matched))) where
   made : link_of (joined_walk (walk_at w.part.links e.tree) (walk_at w.part.links e.matched)) ≡ link_by new id
   made = ap (λ o. link_of (unwrap_or o [])) (sym adds.added)

@@ -102,7 +102,7 @@ module _ (w : SearchValue) (are : IsSearching w) where
       (odd_of_part (problem_of w) w.part.nodes m.top are.state.1.search.search.matching.defects (top_is_odd (problem_of w) w.part.nodes nest m among)))
 
 -- the names of either role are distinct
-distinct_roles : (root : ℕ) (es : List Entry) → AreDistinct (tree_names root es)
+pub distinct_roles : (root : ℕ) (es : List Entry) → AreDistinct (tree_names root es)
     → AreDistinct (plus_names root es) × AreDistinct (minus_names es)
 distinct_roles root [] distinct = (distinct, tt)
 distinct_roles root (e ∷ es) (minus_new, (plus_new, distinct)) =

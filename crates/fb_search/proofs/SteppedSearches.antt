@@ -57,7 +57,7 @@ module _ (roles : Roles) (k : ℕ) (nodes : List Node) where
   leaves_stepped l a v (inl (from, to)) = inl (cover l.from ∙ from, to)
   leaves_stepped l a v (inr (to, from)) = inr (cover l.to ∙ to, from)
 
-  match_stepped : (p : Problem) (l : Link) (a : ℕ) (second : Option ℕ) → IsMatchOf p nodes l a second
+  pub match_stepped : (p : Problem) (l : Link) (a : ℕ) (second : Option ℕ) → IsMatchOf p nodes l a second
       → IsMatchOf p (stepped_nodes roles k nodes) l a second
   match_stepped p l a None (v, leaves, real) = (v, leaves_stepped l a v leaves, real)
   match_stepped p l a (Some b) connects = connects_stepped l a b connects
@@ -133,7 +133,7 @@ searching_stepped w k are limits may =
     }
 
 -- what is below a potential after a step that raises it
-risen-le : (k old new : ℕ) (minus plus : Bool) → new + k * as_count minus ≡ old + k * as_count plus → minus ≡ false
+pub risen-le : (k old new : ℕ) (minus plus : Bool) → new + k * as_count minus ≡ old + k * as_count plus → minus ≡ false
     → plus ≡ true → k ≤ new
 risen-le k old new false true law is_minus is_plus = omega (arith, law)
 risen-le k old new true plus law is_minus is_plus = cc

@@ -49,7 +49,7 @@ plus_over test nodes u over = by (cover_of nodes u) refl over
 -- the edges at the vertex come under watch, but for those within the node
 module _ (p : Problem) (roles : Roles) (nodes : List Node) (name v : ℕ) (limits : IsWithinLimits p) (old new : Watched)
     (watched : WatchesTaken p (absorbed_nodes name v nodes) v old new) (watch : IsWatched p roles nodes old.edges) where
-  near_taken : (k : ℕ) → k < length p.edges
+  pub near_taken : (k : ℕ) → k < length p.edges
       → (is_covered_by roles.is_plus (absorbed_nodes name v nodes) (edge_at p.edges k).first ≡ true)
       ⊎ (is_covered_by roles.is_plus (absorbed_nodes name v nodes) (edge_at p.edges k).second ≡ true)
       → (AreUnderOne (absorbed_nodes name v nodes) (edge_at p.edges k).first (edge_at p.edges k).second → ⊥) → is_in new.edges k ≡ true
@@ -83,7 +83,7 @@ module _ (p : Problem) (roles : Roles) (nodes : List Node) (name v : ℕ) (limit
                 taller_covers nodes name v (edge_at p.edges k).second eb ∙ at_second,
               )
 
-  bounded_taken : ((u : ℕ) → height_of (all_cuts (absorbed_nodes name v nodes)) u ≡ height_of (all_cuts nodes) u)
+  pub bounded_taken : ((u : ℕ) → height_of (all_cuts (absorbed_nodes name v nodes)) u ≡ height_of (all_cuts nodes) u)
       → AreBounded (slack_at p roles nodes) old → AreBounded (slack_at p roles (absorbed_nodes name v nodes)) new
   bounded_taken heights =
       watched.bounds (slack_at p roles nodes) (slack_at p roles (absorbed_nodes name v nodes))

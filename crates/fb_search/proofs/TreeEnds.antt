@@ -37,7 +37,7 @@ use Rattle.fb_search.proofs.ScopeWalks.{IsBetweenThem, between_them}
 use Rattle.fb_search.proofs.AttachedBranches.{plus_role}
 use Rattle.fb_links.proofs.MovedLinks.{Table}
 
-hung_of : (nodes : List Node) (root : ℕ) (table : Table) (tree : List (EntryOf ℕ))
+pub hung_of : (nodes : List Node) (root : ℕ) (table : Table) (tree : List (EntryOf ℕ))
     → IsTree nodes root (map (entry_by table) tree) → AreHung root tree
 hung_of nodes root table [] is = tt
 hung_of nodes root table (e ∷ es) (parent, first, second, rest) =

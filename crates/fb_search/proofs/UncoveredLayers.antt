@@ -98,7 +98,7 @@ module _ (roles : Roles) (nodes : List Node) (name v : ℕ) (apart : (n : ℕ) �
 
   module _ (p : Problem) (old new : Watched) (taken : WatchesTaken p nodes v old new) where
     -- its edges come under watch
-    watch_freed : All (λ k. k < length p.edges) new.edges → IsWatched p roles (absorbed_nodes name v nodes) old.edges
+    pub watch_freed : All (λ k. k < length p.edges) new.edges → IsWatched p roles (absorbed_nodes name v nodes) old.edges
         → IsWatched p roles nodes new.edges
     watch_freed within watch = record {
       within = within;
@@ -115,7 +115,7 @@ module _ (roles : Roles) (nodes : List Node) (name v : ℕ) (apart : (n : ℕ) �
             watched_elsewhere p nodes v old new taken k less away
             ∙ (watch_lower p old.edges watch).near k less over apart_ends
 
-    bounded_freed : ((u : ℕ) → height_of (all_cuts nodes) u ≡ height_of (all_cuts (absorbed_nodes name v nodes)) u)
+    pub bounded_freed : ((u : ℕ) → height_of (all_cuts nodes) u ≡ height_of (all_cuts (absorbed_nodes name v nodes)) u)
         → AreBounded (slack_at p roles (absorbed_nodes name v nodes)) old → AreBounded (slack_at p roles nodes) new
     bounded_freed heights =
         taken.bounds (slack_at p roles (absorbed_nodes name v nodes)) (slack_at p roles nodes)
@@ -157,11 +157,11 @@ module _ (p : Problem) (nodes : List Node) (name last : ℕ) (may : MayUncover n
       ∙ last_push None (top_at (uncovered_nodes name nodes) name) (uncovered_back p nodes name may nest).0))
 
   -- it is given up
-  given_last : IsGivenUp nodes name last
+  pub given_last : IsGivenUp nodes name last
   given_last = subst (IsGivenUp nodes name) (sym last_given) given
 
   -- and is real
-  real_last : p.is_real last ≡ true
+  pub real_last : p.is_real last ≡ true
   real_last =
       is_in-All (λ v. p.is_real v ≡ true) (top_at nodes name) (top_real p nodes name nest may.live) last
       (subst (λ v. is_in (top_at nodes name) v ≡ true) (sym last_given)

@@ -7,6 +7,7 @@ use Rattle.fb_graph.specs.Dual.{Node, top_at}
 use Rattle.fb_links.specs.declared.cycle.CycleStep.{CycleStep}
 use Rattle.fb_laws.specs.Trees.{Connects}
 use Rattle.fb_laws.specs.Works.{AreMatchedLinks}
+use Rattle.fb_regions.specs.declared.roles.Role.{Role}
 use Rattle.fb_regions.specs.declared.roles.Role.TheVariants.{Minus}
 use Rattle.fb_half.specs.Matchings.{MatchingValue}
 use Rattle.fb_half.specs.Translations.{link_by}
@@ -30,16 +31,19 @@ abbrev pub IsClosedBy : SearchValue → ℕ → List CycleStep → Type 0
 IsClosedBy w closing steps = (a b : ℕ) × Closes w a b closing × IsCycle w.tree a b closing steps
 
 -- The edges at each minus node among these are watched, and all that were watched before. The bounds of other edges stay right.
-pub record WatchesMinus (p : Problem) (nodes : List Node) (tree : Grown) (names : List ℕ) (old new : Watched) : Type 0 where
+pub record WatchesMinusBy (p : Problem) (nodes : List Node) (role : ℕ → Role) (names : List ℕ) (old new : Watched) : Type 0 where
   pub room : new.edge_count ≡ old.edge_count
   pub minus : new.nodes ≡ old.nodes
   pub kept : (k : ℕ) → is_in old.edges k ≡ true → is_in new.edges k ≡ true
-  pub near : (name v k : ℕ) → is_in names name ≡ true → role_in tree name ≡ Minus → is_in (top_at nodes name) v ≡ true
+  pub near : (name v k : ℕ) → is_in names name ≡ true → role name ≡ Minus → is_in (top_at nodes name) v ≡ true
       → k < length p.edges → touches v (edge_at p.edges k) ≡ true → is_in new.edges k ≡ true
   pub bounds : (before after : ℕ → ℕ)
-      → ((k : ℕ) → ((name v : ℕ) → is_in names name ≡ true → role_in tree name ≡ Minus → is_in (top_at nodes name) v ≡ true
+      → ((k : ℕ) → ((name v : ℕ) → is_in names name ≡ true → role name ≡ Minus → is_in (top_at nodes name) v ≡ true
       → touches v (edge_at p.edges k) ≡ false) → before k ≤ after k)
       → AreBounded before old → AreBounded after new
+
+abbrev pub WatchesMinus : Problem → List Node → Grown → List ℕ → Watched → Watched → Type 0
+WatchesMinus p nodes tree names old new = WatchesMinusBy p nodes (role_in tree) names old new
 
 -- The new name is listed as unmatched in the place of the old one. Both may be the same.
 pub record IsReplacedBy (old_name new_name : ℕ) (before after : MatchingValue) : Type 0 where

@@ -1,5 +1,10 @@
 pub mod InternalClosings
 pub mod InternalEndings
+pub mod InternalGrowing
+pub mod InternalGrowingEnds
+pub mod InternalGrowingRings
+pub mod InternalGrowth
+pub mod InternalGrowthRuns
 pub mod InternalMeetings
 pub mod InternalNear
 pub mod InternalOpenings
@@ -11,5 +16,6 @@ pub mod InternalRounds
 pub mod InternalRuns
 pub mod InternalSearching
 pub mod InternalTightEdges
+pub mod InternalTreeMeetings
 pub mod InternalTurns
 pub mod Progress

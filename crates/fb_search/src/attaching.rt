@@ -24,11 +24,11 @@ use std::alloc::Global;
 
 /// A link that is made from a plus node to a matched one, whose match is taken out.
 #[derive(Clone, Copy)]
-struct Met {
-    plus: NodeId,
-    other: NodeId,
-    link: LinkId,
-    taken: Match,
+pub(crate) struct Met {
+    pub(crate) plus: NodeId,
+    pub(crate) other: NodeId,
+    pub(crate) link: LinkId,
+    pub(crate) taken: Match,
 }
 
 impl<'a> Searching<'a> {
@@ -94,7 +94,7 @@ fn link_to(
 }
 
 /// The node with which the match matches this one; none at the boundary.
-fn mate_of(taken: Match, name: NodeId) -> Option<NodeId>
+pub(crate) fn mate_of(taken: Match, name: NodeId) -> Option<NodeId>
     requires { is_in (names_of taken) name ≡ true }
     ensures { MatchOption result (IsBoundaryMatch taken name) (IsCouple taken name) }
 {

@@ -100,14 +100,14 @@ fn join_steps(
 }
 
 /// The nodes of the steps.
-fn nodes_on(alloc: Global, steps: &[CycleStep]) -> Result<Vec<NodeId>, NoMemory>
+pub(crate) fn nodes_on(alloc: Global, steps: &[CycleStep]) -> Result<Vec<NodeId>, NoMemory>
     ensures { IfOk result (λ nodes. nodes.items ≡ map (λ s. s.node) steps.now) }
 {
     steps.iter().map(|step| step.node).collect(alloc)
 }
 
 /// Lists the new name as unmatched in the place of the old one.
-fn replace_unmatched(
+pub(crate) fn replace_unmatched(
     alloc: Global,
     matching: &mut Matching,
     old: NodeId,

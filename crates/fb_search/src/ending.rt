@@ -42,7 +42,11 @@ pub(crate) fn tree_end(alloc: Global, tree: &Tree, plus: NodeId) -> Result<TreeE
 
 /// Along a path down from the root each parent is matched with the minus node under it, and no longer this one with its
 /// plus node.
-fn swapped_along(alloc: Global, root: NodeId, path: &[CycleStep]) -> Result<TreeEnd, NoMemory>
+pub(crate) fn swapped_along(
+    alloc: Global,
+    root: NodeId,
+    path: &[CycleStep],
+) -> Result<TreeEnd, NoMemory>
     ensures matches { IfOk result (λ end. end.matches.items ≡ swapped_from root path.now) }
     ensures gone { IfOk result (λ end. end.gone.items ≡ between_on path.now) }
 {
@@ -80,7 +84,7 @@ fn push_swap(
 }
 
 /// Beside the path each minus node stays matched with its plus node.
-fn push_beside(end: &mut TreeEnd, others: &[Branch]) -> Result<(), NoMemory>
+pub(crate) fn push_beside(end: &mut TreeEnd, others: &[Branch]) -> Result<(), NoMemory>
     ensures matches { OnOk result (end.new.matches.items
         ≡ end.old.matches.items ++ map (λ b. beside_match (entry_of b)) others.now) }
     ensures gone { OnOk result (end.new.gone.items ≡ end.old.gone.items ++ map (λ b. b.tree) others.now) }

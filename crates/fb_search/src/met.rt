@@ -11,7 +11,7 @@ use fb_graph::Scope;
 use fb_regions::{NodeId, Regions, Role};
 
 /// The two outer nodes over the ends of the edge.
-fn over_ends<S: Scope>(regions: &Regions<S>, edge: u32) -> (NodeId, NodeId)
+pub(crate) fn over_ends<S: Scope>(regions: &Regions<S>, edge: u32) -> (NodeId, NodeId)
     requires within { edge < length (S.problem regions.now.scope).edges }
     requires covered { let e = edge_at (S.problem regions.now.scope).edges edge in
         (a b : ℕ) × (cover_of regions.now.nodes e.first ≡ Some a) × (cover_of regions.now.nodes e.second ≡ Some b) }

@@ -85,7 +85,7 @@ fn enter_way<S: Scope>(
 }
 
 /// The child of the blossom at which the link ends.
-fn child_at(parts: &Parts, node: NodeId, link: LinkId) -> NodeId
+pub(crate) fn child_at(parts: &Parts, node: NodeId, link: LinkId) -> NodeId
     requires { (other : ℕ) × MayEnter (part_of parts.now) node other link }
     ensures { (other : ℕ) → MayEnter (part_of parts.now) node other link
         → EndsAtChild (part_of parts.now) node other link result }
@@ -111,18 +111,18 @@ fn end_under(blossoms: &Blossoms, node: NodeId, first: u32, second: u32) -> u32
 
 /// The cycle of an opened blossom taken apart.
 #[derive(Drop)]
-struct Apart {
+pub(crate) struct Apart {
     /// The steps that take the blossom's place in the tree.
-    way: Vec<CycleStep>,
+    pub(crate) way: Vec<CycleStep>,
     /// Matches of all other nodes.
-    matches: Vec<Match>,
+    pub(crate) matches: Vec<Match>,
     /// The links that are neither between nodes of the way nor those of the matches.
-    left: Vec<LinkId>,
+    pub(crate) left: Vec<LinkId>,
 }
 
 /// Takes the cycle apart: the steps of the way from the first node to the second one by an even number of links, and
 /// the nodes beside the way in pairs.
-fn taken_apart(
+pub(crate) fn taken_apart(
     alloc: Global,
     cycle: &[CycleStep],
     first: NodeId,

@@ -3,7 +3,7 @@ use Rattle.std.proofs.lemmas.Result.{IfOk-weaker}
 use Rattle.fb_search.specs.InternalClosings.{IsReplacedBy}
 use Rattle.fb_half.specs.Seams.{AreListed}
 use Rattle.fb_search.specs.InternalSearching.{SearchValue, problem_of, search_of}
-use Rattle.fb_search.proofs.ClosedCycles.{steps_join, steps_live, steps_odd, steps_outer, steps_replaced, steps_round}
+use Rattle.fb_search.proofs.ClosedCycles.{steps_join, steps_live, steps_odd, steps_outer, steps_replaced, steps_round, tree_closes}
 use Rattle.fb_search.proofs.ClosedSearches.{cycle_made, new_name, root_new}
 use Rattle.fb_search.proofs.ListedSteps.{scope_is}
 use Rattle.fb_search.proofs.closing.join_steps.Goals as goal
@@ -12,7 +12,7 @@ pub watch_minus-requires-clause-live : goal.watch_minus-requires-clause-live
 watch_minus-requires-clause-live c =
     let w : SearchValue = search_of c.args.pieces.now in
     let (a, b, closes, is) = c.requires.cycle in
-    rw c.requires.nodes (steps_live w a b c.args.closing closes c.args.cycle.items is)
+    rw c.requires.nodes (steps_live w.part w.tree closes.search.state.0 a b c.args.closing (tree_closes w a b c.args.closing closes) c.args.cycle.items is)
 
 pub watch_minus-requires-clause-room : goal.watch_minus-requires-clause-room
 watch_minus-requires-clause-room c =
@@ -22,19 +22,19 @@ pub form-requires-clause-cycle : goal.form-requires-clause-cycle
 form-requires-clause-cycle c =
     let w : SearchValue = search_of c.args.pieces.now in
     let (a, b, closes, is) = c.requires.cycle in
-    steps_odd w a b c.args.closing closes c.args.cycle.items is
+    steps_odd w.part w.tree closes.search.state.0 a b c.args.closing (tree_closes w a b c.args.closing closes) c.args.cycle.items is
 
 pub form-requires-clause-linked : goal.form-requires-clause-linked
 form-requires-clause-linked c =
     let w : SearchValue = search_of c.args.pieces.now in
     let (a, b, closes, is) = c.requires.cycle in
-    steps_round w a b c.args.closing closes c.args.cycle.items is c.keeps-2.ensures
+    steps_round w.part w.tree closes.search.state.0 a b c.args.closing (tree_closes w a b c.args.closing closes) c.args.cycle.items is c.keeps-2.ensures
 
 pub form-requires-clause-outer : goal.form-requires-clause-outer
 form-requires-clause-outer c =
     let w : SearchValue = search_of c.args.pieces.now in
     let (a, b, closes, is) = c.requires.cycle in
-    steps_outer w a b c.args.closing closes c.args.cycle.items is
+    steps_outer w.part w.tree closes.search.state.0 a b c.args.closing (tree_closes w a b c.args.closing closes) c.args.cycle.items is
 
 pub join_nodes-requires : goal.join_nodes-requires
 join_nodes-requires c =
@@ -43,7 +43,7 @@ join_nodes-requires c =
     let fresh =
     new_name w a b c.args.closing closes c.args.cycle.items is c.in_ok-blossom.blossom
     c.form.new.self c.in_ok-blossom.ensures.ok in
-    rw c.requires.nodes (steps_join w a b c.args.closing closes c.args.cycle.items is
+    rw c.requires.nodes (steps_join w.part w.tree closes.search.state.0 a b c.args.closing (tree_closes w a b c.args.closing closes) c.args.cycle.items is
     c.in_ok-blossom.blossom fresh)
 
 pub replace-requires-clause-replace : goal.replace-requires-clause-replace
@@ -54,7 +54,7 @@ replace-requires-clause-replace c =
     new_name w a b c.args.closing closes c.args.cycle.items is c.in_ok-blossom.blossom
     c.form.new.self c.in_ok-blossom.ensures.ok in
     rw c.requires.nodes
-    (steps_replaced w a b c.args.closing closes c.args.cycle.items is
+    (steps_replaced w.part w.tree closes.search.state.0 a b c.args.closing (tree_closes w a b c.args.closing closes) c.args.cycle.items is
     c.in_ok-blossom.blossom c.args.closing fresh)
 
 pub replace_unmatched-requires-clause-listed : goal.replace_unmatched-requires-clause-listed

@@ -22,20 +22,20 @@ use Rattle.fb_search.proofs.BranchEnds.{enters_above, enters_below, opens_by}
 use Rattle.fb_search.proofs.OpenedConditions.{couples_fresh, left_distinct, left_live, way_linked, way_opens}
 use Rattle.fb_search.proofs.OpenedMatchings.{opened_listed}
 use Rattle.fb_search.proofs.OpenedSearches.{goes_on_opened, searching_opened, way_live}
-use Rattle.fb_search.proofs.Openings.{HasOpened, Opens, round_in}
+use Rattle.fb_search.proofs.Openings.{HasOpened, Opens, opening_of, round_in}
 use Rattle.fb_search.proofs.opening.open_node.Goals as goal
 
 pub child_at-above-requires : goal.child_at-above-requires
 child_at-above-requires c =
     let w : SearchValue = search_of c.args.pieces.now in
     let e = entry_of c.branch-branch.result in
-    (e.parent, enters_above w c.args.node e c.requires.search c.requires.empty.1 c.branch-branch.ensures)
+    (e.parent, enters_above w c.args.node e (opening_of w c.requires.search) c.requires.empty.1 c.branch-branch.ensures)
 
 pub child_at-below-requires : goal.child_at-below-requires
 child_at-below-requires c =
     let w : SearchValue = search_of c.args.pieces.now in
     let e = entry_of c.branch-branch.result in
-    (e.plus, enters_below w c.args.node e c.requires.search c.requires.empty.1 c.branch-branch.ensures)
+    (e.plus, enters_below w c.args.node e (opening_of w c.requires.search) c.requires.empty.1 c.branch-branch.ensures)
 
 pub open_up-cycle-requires-clause-blossom : goal.open_up-cycle-requires-clause-blossom
 open_up-cycle-requires-clause-blossom c =
@@ -51,7 +51,7 @@ taken_apart-requires-clause-first c =
     let w : SearchValue = search_of c.args.pieces.now in
     let e = entry_of c.branch-branch.result in
     let opens : Opens w c.args.node e c.child_at-above.result c.child_at-below.result =
-    opens_by w c.args.node e c.child_at-above.result c.child_at-below.result c.requires.search c.requires.empty.1
+    opens_by w c.args.node e c.child_at-above.result c.child_at-below.result (opening_of w c.requires.search) c.requires.empty.1
     c.branch-branch.ensures c.child_at-above.ensures c.child_at-below.ensures in
     ap (λ l. is_on l c.child_at-above.result) (c.deref.ensures.value ∙ c.open_up-cycle.ensures.cycle)
     ∙ opens.at_above.on_cycle
@@ -61,7 +61,7 @@ taken_apart-requires-clause-second c =
     let w : SearchValue = search_of c.args.pieces.now in
     let e = entry_of c.branch-branch.result in
     let opens : Opens w c.args.node e c.child_at-above.result c.child_at-below.result =
-    opens_by w c.args.node e c.child_at-above.result c.child_at-below.result c.requires.search c.requires.empty.1
+    opens_by w c.args.node e c.child_at-above.result c.child_at-below.result (opening_of w c.requires.search) c.requires.empty.1
     c.branch-branch.ensures c.child_at-above.ensures c.child_at-below.ensures in
     ap (λ l. is_on l c.child_at-below.result) (c.deref.ensures.value ∙ c.open_up-cycle.ensures.cycle)
     ∙ opens.at_below.on_cycle
@@ -71,67 +71,67 @@ replace-requires-clause-replace c =
     let w : SearchValue = search_of c.args.pieces.now in
     let e = entry_of c.branch-branch.result in
     let opens : Opens w c.args.node e c.child_at-above.result c.child_at-below.result =
-    opens_by w c.args.node e c.child_at-above.result c.child_at-below.result c.requires.search c.requires.empty.1
+    opens_by w c.args.node e c.child_at-above.result c.child_at-below.result (opening_of w c.requires.search) c.requires.empty.1
     c.branch-branch.ensures c.child_at-above.ensures c.child_at-below.ensures in
     let cycle = c.deref.ensures.value ∙ c.open_up-cycle.ensures.cycle in
     let parts = λ (cycle : List CycleStep). even_on (round_on cycle c.child_at-above.result) c.child_at-below.result in
     subst (MayOpen w.tree c.args.node) (sym (c.deref-2.ensures.value ∙ c.in_ok-apart.ensures.way
     ∙ ap (λ l. way_on (parts l) c.child_at-below.result) cycle))
-    (way_opens w c.args.node e c.child_at-above.result c.child_at-below.result c.requires.search opens)
+    (way_opens w c.args.node e c.child_at-above.result c.child_at-below.result (opening_of w c.requires.search) opens)
 
 pub replace-requires-clause-links : goal.replace-requires-clause-links
 replace-requires-clause-links c =
     let w : SearchValue = search_of c.args.pieces.now in
     let e = entry_of c.branch-branch.result in
     let opens : Opens w c.args.node e c.child_at-above.result c.child_at-below.result =
-    opens_by w c.args.node e c.child_at-above.result c.child_at-below.result c.requires.search c.requires.empty.1
+    opens_by w c.args.node e c.child_at-above.result c.child_at-below.result (opening_of w c.requires.search) c.requires.empty.1
     c.branch-branch.ensures c.child_at-above.ensures c.child_at-below.ensures in
     let cycle = c.deref.ensures.value ∙ c.open_up-cycle.ensures.cycle in
     let parts = λ (cycle : List CycleStep). even_on (round_on cycle c.child_at-above.result) c.child_at-below.result in
     subst (AreLinkedOn w.part.links) (sym (c.deref-2.ensures.value ∙ c.in_ok-apart.ensures.way
     ∙ ap (λ l. way_on (parts l) c.child_at-below.result) cycle))
-    (way_linked w c.args.node e c.child_at-above.result c.child_at-below.result c.requires.search opens)
+    (way_linked w c.args.node e c.child_at-above.result c.child_at-below.result (opening_of w c.requires.search) opens)
 
 pub add_matches-requires : goal.add_matches-requires
 add_matches-requires c =
     let w : SearchValue = search_of c.args.pieces.now in
     let e = entry_of c.branch-branch.result in
     let opens : Opens w c.args.node e c.child_at-above.result c.child_at-below.result =
-    opens_by w c.args.node e c.child_at-above.result c.child_at-below.result c.requires.search c.requires.empty.1
+    opens_by w c.args.node e c.child_at-above.result c.child_at-below.result (opening_of w c.requires.search) c.requires.empty.1
     c.branch-branch.ensures c.child_at-above.ensures c.child_at-below.ensures in
     let cycle = c.deref.ensures.value ∙ c.open_up-cycle.ensures.cycle in
     let parts = λ (cycle : List CycleStep). even_on (round_on cycle c.child_at-above.result) c.child_at-below.result in
     subst (λ ms. AreDistinct (listed_names w.part.matching ++ matched_names ms))
     (sym (c.deref-5.ensures.value ∙ c.in_ok-apart.ensures.matches
     ∙ ap (λ l. couples_on (rest_on (parts l) c.child_at-below.result)) cycle))
-    (couples_fresh w c.args.node e c.child_at-above.result c.child_at-below.result c.requires.search opens)
+    (couples_fresh w c.args.node e c.child_at-above.result c.child_at-below.result (opening_of w c.requires.search) opens)
 
 pub forget_all-requires-clause-live : goal.forget_all-requires-clause-live
 forget_all-requires-clause-live c =
     let w : SearchValue = search_of c.args.pieces.now in
     let e = entry_of c.branch-branch.result in
     let opens : Opens w c.args.node e c.child_at-above.result c.child_at-below.result =
-    opens_by w c.args.node e c.child_at-above.result c.child_at-below.result c.requires.search c.requires.empty.1
+    opens_by w c.args.node e c.child_at-above.result c.child_at-below.result (opening_of w c.requires.search) c.requires.empty.1
     c.branch-branch.ensures c.child_at-above.ensures c.child_at-below.ensures in
     let cycle = c.deref.ensures.value ∙ c.open_up-cycle.ensures.cycle in
     let parts = λ (cycle : List CycleStep). even_on (round_on cycle c.child_at-above.result) c.child_at-below.result in
     subst (All (λ id. table.is_live w.part.links id ≡ true))
     (sym (c.deref-3.ensures.value ∙ c.in_ok-apart.ensures.left
     ∙ ap (λ l. links_left (parts l) c.child_at-below.result) cycle))
-    (left_live w c.args.node e c.child_at-above.result c.child_at-below.result c.requires.search opens)
+    (left_live w c.args.node e c.child_at-above.result c.child_at-below.result (opening_of w c.requires.search) opens)
 
 pub forget_all-requires-clause-distinct : goal.forget_all-requires-clause-distinct
 forget_all-requires-clause-distinct c =
     let w : SearchValue = search_of c.args.pieces.now in
     let e = entry_of c.branch-branch.result in
     let opens : Opens w c.args.node e c.child_at-above.result c.child_at-below.result =
-    opens_by w c.args.node e c.child_at-above.result c.child_at-below.result c.requires.search c.requires.empty.1
+    opens_by w c.args.node e c.child_at-above.result c.child_at-below.result (opening_of w c.requires.search) c.requires.empty.1
     c.branch-branch.ensures c.child_at-above.ensures c.child_at-below.ensures in
     let cycle = c.deref.ensures.value ∙ c.open_up-cycle.ensures.cycle in
     let parts = λ (cycle : List CycleStep). even_on (round_on cycle c.child_at-above.result) c.child_at-below.result in
     subst AreDistinct (sym (c.deref-3.ensures.value ∙ c.in_ok-apart.ensures.left
     ∙ ap (λ l. links_left (parts l) c.child_at-below.result) cycle))
-    (left_distinct w c.args.node e c.child_at-above.result c.child_at-below.result c.requires.search opens)
+    (left_distinct w c.args.node e c.child_at-above.result c.child_at-below.result (opening_of w c.requires.search) opens)
 
 pub watch_node-requires-clause-live : goal.watch_node-requires-clause-live
 watch_node-requires-clause-live c = c.requires.empty.1.live
@@ -146,7 +146,7 @@ enter_way-requires c =
     let w : SearchValue = search_of c.args.pieces.now in
     let e = entry_of c.branch-branch.result in
     let opens : Opens w c.args.node e c.child_at-above.result c.child_at-below.result =
-    opens_by w c.args.node e c.child_at-above.result c.child_at-below.result c.requires.search c.requires.empty.1
+    opens_by w c.args.node e c.child_at-above.result c.child_at-below.result (opening_of w c.requires.search) c.requires.empty.1
     c.branch-branch.ensures c.child_at-above.ensures c.child_at-below.ensures in
     let cycle = c.deref.ensures.value ∙ c.open_up-cycle.ensures.cycle in
     let parts = λ (cycle : List CycleStep). even_on (round_on cycle c.child_at-above.result) c.child_at-below.result in
@@ -176,7 +176,7 @@ returns c =
     let w : SearchValue = search_of c.args.pieces.now in
     let e = entry_of c.branch-branch.result in
     let opens : Opens w c.args.node e c.child_at-above.result c.child_at-below.result =
-    opens_by w c.args.node e c.child_at-above.result c.child_at-below.result c.requires.search c.requires.empty.1
+    opens_by w c.args.node e c.child_at-above.result c.child_at-below.result (opening_of w c.requires.search) c.requires.empty.1
     c.branch-branch.ensures c.child_at-above.ensures c.child_at-below.ensures in
     let cycle = c.deref.ensures.value ∙ c.open_up-cycle.ensures.cycle in
     let parts = λ (cycle : List CycleStep). even_on (round_on cycle c.child_at-above.result) c.child_at-below.result in
@@ -221,7 +221,7 @@ returns c =
         node = scope.node;
         defects = scope.defects;
         listed =
-            opened_listed w c.args.node e c.child_at-above.result c.child_at-below.result c.requires.search opens
+            opened_listed w c.args.node e c.child_at-above.result c.child_at-below.result (opening_of w c.requires.search) opens
             c.forget_all.new.links c.open_up-cycle.new.self c.replace.new.self c.watch_node.new.watch has c.args.pieces.now.parts.seams scope.listed;
       };
       keeps = searching_opened w c.args.node e c.child_at-above.result c.child_at-below.result c.requires.search opens
