@@ -9,13 +9,14 @@ use fb_graph::{NoMemory, Steps, Whole};
 use fb_half::{Half, Spare, Work};
 use fb_plan::Job;
 use fb_regions::NodeId;
-use fb_search::{Scratch, search_each_from};
+use fb_search::{Scratch, match_all_from};
 use std::alloc::Global;
 use std::sync::ledger::Ledger;
 
-/// The solved part of a fusion, made of its children's: both are put together (`Work::merge`), and a search goes from each
-/// node that is unmatched then, in rising order of their first vertices. Counts a step for each search: at most one for
-/// each node that was matched to the seam and for each shifted defect on it, and at least one for every two of these.
+/// The solved part of a fusion, made of its children's: both are put together (`Work::merge`), and each node that is unmatched
+/// then is matched, those that can be at once in rising order of their first vertices. Counts a step for each search and each
+/// tree that begins: at most one for each node that was matched to the seam and for each shifted defect on it, and at least
+/// one for every two of these.
 pub fn fuse<'a, L: Ledger>(
     alloc: Global,
     job: &'a Job<'a>,
@@ -65,12 +66,12 @@ pub fn fuse_from<'a, L: Ledger>(
         + length (seam_defects job.now left.entry.slot node)) + 2 * steps.old ≤ 2 * steps.new) }
 {
     let (work, spare) = Work::merge_with_spare(alloc, job, node, left, right)?;
-    let (work, scratch) = search_all(alloc, work, scratch, steps)?;
+    let (work, scratch) = match_all(alloc, work, scratch, steps)?;
     Ok((work.close(), spare, scratch))
 }
 
-/// Searches from each unmatched node, in rising order of their first vertices, until none is left.
-fn search_all<'a, L: Ledger>(
+/// Matches each unmatched node: those that can be at once in rising order of their first vertices, then all others.
+fn match_all<'a, L: Ledger>(
     alloc: Global,
     work: Work<'a>,
     scratch: Scratch,
@@ -85,7 +86,7 @@ fn search_all<'a, L: Ledger>(
     ensures least { IfOk result (λ _. length work.entry.matching.unmatched + 2 * steps.old ≤ 2 * steps.new) }
 {
     let roots = roots_of(alloc, &work)?;
-    search_each_from(alloc, work, &roots, scratch, steps)
+    match_all_from(alloc, work, &roots, scratch, steps)
 }
 
 /// An unmatched node, and the first of its vertices.

@@ -12,13 +12,14 @@ use Rattle.fb_graph.specs.Laws.{Link}
 use Rattle.fb_graph.specs.Dual.{Node, cover_of, is_outer, no_node, node_at, top_at}
 use Rattle.fb_graph.proofs.EndSums.{ends_append}
 use Rattle.fb_graph.proofs.Floods.{is_in-left, is_in-right}
+use Rattle.fb_graph.proofs.Members.{is_in-append}
 use Rattle.fb_graph.proofs.Sets.{equal_sym, is_in-filter, is_in-head, is_in-tail}
 use Rattle.fb_laws.specs.Paths.{AreWholeOnPath, IsPath, matched_links, tip_of, tree_links}
 use Rattle.fb_laws.specs.Works.{AreMatchedLinks, IsBranchOf, IsMatching, IsSetOf, names_without}
 use Rattle.fb_laws.specs.Trees.{Connects, IsTree, branches_beside, branches_of, grown_links, paired_links, path_to, plus_names, tree_names}
 use Rattle.fb_laws.specs.Searches.{IsOuterNode, IsSearch, LeavesNode}
 use Rattle.fb_laws.specs.Forests.{ForestDone, ForestEnded, ForestFirst, ForestMet, ForestReleased, IsForest, MatchingRerooted, TreeOf, forest_grown, forest_names, forest_paired, forest_roots, met_links}
-use Rattle.fb_laws.proofs.ForestStates.{all_mid, each_first, forest_tree, links_kept, names_first}
+use Rattle.fb_laws.proofs.ForestStates.{all_mid, each_first, forest_tree, links_kept, names_first, root_not_waiting, waiting_beside}
 use Rattle.fb_laws.proofs.HalvesKept.{matching_permuted}
 use Rattle.fb_laws.proofs.MatchedNodes.{matching_augmented, matching_met, matching_released, set_held, set_whole}
 use Rattle.fb_laws.proofs.MergedParts.{distinct_across}
@@ -104,8 +105,13 @@ swap_two true false c = refl
 swap_two false true c = refl
 swap_two false false c = refl
 
+-- a name that is in both lists or in neither, each followed by one more list
+pub with_waiting : (xs ys waiting : List ℕ) (n : ℕ) → is_in xs n ≡ is_in ys n → is_in (xs ++ waiting) n ≡ is_in (ys ++ waiting) n
+with_waiting xs ys waiting n same =
+    is_in-append xs waiting n ∙ (ap (λ b. b || is_in waiting n) same ∙ sym (is_in-append ys waiting n))
+
 pub forest_first : ForestFirst
-forest_first p nodes before after t rest unmatched r state = record {
+forest_first p nodes before after t rest unmatched waiting r state = record {
   matching =
       matching_permuted p nodes (forest_paired (before ++ t ∷ after) ++ rest) (forest_paired (t ∷ (before ++ after)) ++ rest)
       unmatched
@@ -115,7 +121,13 @@ forest_first p nodes before after t rest unmatched r state = record {
   outer =
       let (one, others) = all_mid (λ s. IsOuterNode nodes s.root) before after t state.outer in
       All-cons (λ s. IsOuterNode nodes s.root) t (before ++ after) one others;
-  roots = λ n. state.roots n ∙ root_first before n;
+  roots = λ n.
+      state.roots n
+      ∙ with_waiting (forest_roots (before ++ t ∷ after)) (forest_roots (t ∷ (before ++ after))) waiting n (root_first before n);
+  apart = λ n waits.
+      same_permuted (forest_names (before ++ t ∷ after)) (forest_names (t ∷ (before ++ after))) (names_first before after t) n
+      ∙ state.apart n waits;
+  even = state.even;
   names =
       distinct_permuted (forest_names (before ++ t ∷ after)) (forest_names (t ∷ (before ++ after))) (names_first before after t)
       state.names;
@@ -170,13 +182,15 @@ root_in_names (t ∷ ts) n has = by (or_cases (t.root == n) (is_in (forest_roots
 
 -- the forest without its first tree
 forest_left : (p : Problem) (nodes : List Node) (t : TreeOf Link) (others : List (TreeOf Link)) (rest more : List Link)
-    (unmatched remaining : List ℕ) (r : ℕ) → IsForest p nodes (t ∷ others) rest unmatched r
+    (unmatched remaining waiting : List ℕ) (r : ℕ) → IsForest p nodes (t ∷ others) rest unmatched waiting r
     → IsMatching p nodes (forest_paired others ++ more) remaining
-    → ((n : ℕ) → is_in remaining n ≡ is_in (forest_roots others) n) → IsForest p nodes others more remaining r
-forest_left p nodes t others rest more unmatched remaining r state matching roots = record {
+    → ((n : ℕ) → is_in remaining n ≡ is_in (forest_roots others ++ waiting) n) → IsForest p nodes others more remaining waiting r
+forest_left p nodes t others rest more unmatched remaining waiting r state matching roots = record {
   matching = matching;
   outer = All-tail (λ s. IsOuterNode nodes s.root) t others state.outer;
   roots = roots;
+  apart = (waiting_beside p nodes [] others t rest unmatched waiting r state).apart;
+  even = state.even;
   names = distinct_right (tree_names t.root t.branches) (forest_names others) state.names;
   joined = All-tail (λ s. IsTree nodes s.root s.branches) t others state.joined;
   grown =
@@ -188,23 +202,28 @@ forest_left p nodes t others rest more unmatched remaining r state matching root
 
 -- the root of the first tree is in no other one
 root_apart : (p : Problem) (nodes : List Node) (t : TreeOf Link) (others : List (TreeOf Link)) (rest : List Link)
-    (unmatched : List ℕ) (r : ℕ) → IsForest p nodes (t ∷ others) rest unmatched r → is_in (forest_names others) t.root ≡ false
-root_apart p nodes t others rest unmatched r state =
+    (unmatched waiting : List ℕ) (r : ℕ) → IsForest p nodes (t ∷ others) rest unmatched waiting r
+    → is_in (forest_names others) t.root ≡ false
+root_apart p nodes t others rest unmatched waiting r state =
     distinct_across (tree_names t.root t.branches) (forest_names others) t.root state.names
     (plus_in_tree t.root t.branches t.root (root_plus t.root t.branches))
 
 root_only : (p : Problem) (nodes : List Node) (t : TreeOf Link) (others : List (TreeOf Link)) (rest : List Link)
-    (unmatched : List ℕ) (r : ℕ) → IsForest p nodes (t ∷ others) rest unmatched r → is_in (forest_roots others) t.root ≡ false
-root_only p nodes t others rest unmatched r state =
-    false_from_ne_true (is_in (forest_roots others) t.root)
+    (unmatched waiting : List ℕ) (r : ℕ) → IsForest p nodes (t ∷ others) rest unmatched waiting r
+    → is_in (forest_roots others ++ waiting) t.root ≡ false
+root_only p nodes t others rest unmatched waiting r state =
+    is_in-append (forest_roots others) waiting t.root
+    ∙ or_from (is_in (forest_roots others) t.root) (is_in waiting t.root)
+    (false_from_ne_true (is_in (forest_roots others) t.root)
     (λ h.
-    both_ways (is_in (forest_names others) t.root) (root_apart p nodes t others rest unmatched r state)
-    (root_in_names others t.root h))
+    both_ways (is_in (forest_names others) t.root) (root_apart p nodes t others rest unmatched waiting r state)
+    (root_in_names others t.root h)))
+    (root_not_waiting p nodes [] others t rest unmatched waiting r state)
 
 pub forest_ended : ForestEnded
-forest_ended p nodes t others rest unmatched r name out v state among are leaving boundary =
+forest_ended p nodes t others rest unmatched waiting r name out v state among are leaving boundary =
     forest_left p nodes t others rest ((grown_links (path_to t.branches name) ++ out ∷ paired_links (branches_beside t.branches name)) ++ rest)
-    unmatched (names_without t.root unmatched) r state
+    unmatched (names_without t.root unmatched) waiting r state
     (matching_permuted p nodes
     (grown_links (path_to t.branches name)
     ++ out ∷ (paired_links (branches_beside t.branches name) ++ (forest_paired others ++ rest)))
@@ -225,10 +244,11 @@ forest_ended p nodes t others rest unmatched r name out v state among are leavin
     path.2 path.0
     (ends.links p nodes t.branches (forest_paired others ++ rest) unmatched t.root r name found among out are)
     (ends.leads p nodes t.branches (forest_paired others ++ rest) unmatched t.root r name found among out v leaving) boundary)))
-    (without_root unmatched (forest_roots others) t.root state.roots (root_only p nodes t others rest unmatched r state))
+    (without_root unmatched (forest_roots others ++ waiting) t.root state.roots
+    (root_only p nodes t others rest unmatched waiting r state))
   where
     found : IsSearch p nodes t.branches (forest_paired others ++ rest) unmatched t.root r
-    found = forest_tree p nodes [] others t rest unmatched r state
+    found = forest_tree p nodes [] others t rest unmatched waiting r state
 
     path : IsPath (top_at nodes t.root) (branches_of nodes (path_to t.branches name))
         × (tip_of (top_at nodes t.root) (branches_of nodes (path_to t.branches name)) ≡ top_at nodes name)
@@ -237,11 +257,11 @@ forest_ended p nodes t others rest unmatched r name out v state among are leavin
     path = search_path p nodes t.branches (forest_paired others ++ rest) unmatched t.root r name found among
 
 pub forest_released : ForestReleased
-forest_released p nodes t others old rest unmatched r name other out b state among are connects leaving_old boundary =
+forest_released p nodes t others old rest unmatched waiting r name other out b state among are connects leaving_old boundary =
     let (v, leaving, cover) = ends.out_of nodes out name other connects in
     let (set, within) = cover_set nodes v other state.matching.dual.names cover in
     forest_left p nodes t others (old ∷ rest) ((grown_links (path_to t.branches name) ++ out ∷ beside) ++ rest) unmatched
-    (names_without t.root unmatched) r state
+    (names_without t.root unmatched) waiting r state
     (matching_permuted p nodes (grown_links (path_to t.branches name) ++ out ∷ (beside ++ (forest_paired others ++ rest)))
     (forest_paired others ++ ((grown_links (path_to t.branches name) ++ out ∷ beside) ++ rest)) (names_without t.root unmatched)
     (subst (λ l. IsPermutation l (forest_paired others ++ ((grown_links (path_to t.branches name) ++ out ∷ beside) ++ rest)))
@@ -265,7 +285,8 @@ forest_released p nodes t others old rest unmatched r name other out b state amo
     (ends.links p nodes t.branches (forest_paired others ++ old ∷ rest) unmatched t.root r name found among out are)
     (ends.leads p nodes t.branches (forest_paired others ++ old ∷ rest) unmatched t.root r name found among out v leaving) within
     (leads_from nodes old other b state.matching.dual.names leaving_old) boundary)))
-    (without_root unmatched (forest_roots others) t.root state.roots (root_only p nodes t others (old ∷ rest) unmatched r state))
+    (without_root unmatched (forest_roots others ++ waiting) t.root state.roots
+    (root_only p nodes t others (old ∷ rest) unmatched waiting r state))
   where
     beside : List Link
     beside = paired_links (branches_beside t.branches name)
@@ -274,7 +295,7 @@ forest_released p nodes t others old rest unmatched r name other out b state amo
     along = matched_links (branches_of nodes (path_to t.branches name))
 
     found : IsSearch p nodes t.branches (forest_paired others ++ old ∷ rest) unmatched t.root r
-    found = forest_tree p nodes [] others t (old ∷ rest) unmatched r state
+    found = forest_tree p nodes [] others t (old ∷ rest) unmatched waiting r state
 
     path : IsPath (top_at nodes t.root) (branches_of nodes (path_to t.branches name))
         × (tip_of (top_at nodes t.root) (branches_of nodes (path_to t.branches name)) ≡ top_at nodes name)
@@ -283,16 +304,16 @@ forest_released p nodes t others old rest unmatched r name other out b state amo
     path = search_path p nodes t.branches (forest_paired others ++ old ∷ rest) unmatched t.root r name found among
 
 pub forest_done : ForestDone
-forest_done p nodes rest unmatched r state = (
+forest_done p nodes rest unmatched waiting r state = (
   record {
     matching = state.matching;
-    even = λ d name leaf cover among. absurd (false≢true (sym (state.roots name) ∙ among));
+    even = λ d name leaf cover among. state.even d name leaf cover (sym (state.roots name) ∙ among);
   },
   state.roots,
 )
 
 module _ (p : Problem) (nodes : List Node) (t s : TreeOf Link) (others : List (TreeOf Link)) (rest : List Link)
-    (unmatched : List ℕ) (r a b : ℕ) (out : Link) (state : IsForest p nodes (t ∷ s ∷ others) rest unmatched r)
+    (unmatched waiting : List ℕ) (r a b : ℕ) (out : Link) (state : IsForest p nodes (t ∷ s ∷ others) rest unmatched waiting r)
     (at_a : is_in (plus_names t.root t.branches) a ≡ true) (at_b : is_in (plus_names s.root s.branches) b ≡ true)
     (are : AreMatchedLinks p nodes (out ∷ [])) (connects : Connects nodes out a b) where
   abbrev along_t : List Link
@@ -314,10 +335,10 @@ module _ (p : Problem) (nodes : List Node) (t s : TreeOf Link) (others : List (T
   left = names_without s.root unmatched
 
   first : IsSearch p nodes t.branches (forest_paired (s ∷ others) ++ rest) unmatched t.root r
-  first = forest_tree p nodes [] (s ∷ others) t rest unmatched r state
+  first = forest_tree p nodes [] (s ∷ others) t rest unmatched waiting r state
 
   second : IsSearch p nodes s.branches (forest_paired (t ∷ others) ++ rest) unmatched s.root r
-  second = forest_tree p nodes (t ∷ []) others s rest unmatched r state
+  second = forest_tree p nodes (t ∷ []) others s rest unmatched waiting r state
 
   path_a : IsPath (top_at nodes t.root) (branches_of nodes (path_to t.branches a))
       × (tip_of (top_at nodes t.root) (branches_of nodes (path_to t.branches a)) ≡ top_at nodes a)
@@ -387,7 +408,7 @@ module _ (p : Problem) (nodes : List Node) (t s : TreeOf Link) (others : List (T
   roots_differ =
       false_from_ne_true (is_in (tree_names s.root s.branches) t.root)
       (λ h.
-      both_ways (is_in (forest_names (s ∷ others)) t.root) (root_apart p nodes t (s ∷ others) rest unmatched r state)
+      both_ways (is_in (forest_names (s ∷ others)) t.root) (root_apart p nodes t (s ∷ others) rest unmatched waiting r state)
       (is_in-left (tree_names s.root s.branches) (forest_names others) t.root h))
 
   root_left : is_in left t.root ≡ true
@@ -447,32 +468,36 @@ module _ (p : Problem) (nodes : List Node) (t s : TreeOf Link) (others : List (T
       (append_assoc along_s (beside_s ++ beside_t) beyond ∙ ap (λ l. along_s ++ l) (append_assoc beside_s beside_t beyond)))
       (pull (met_links t a out s b) (forest_paired others) rest)
 
-  remaining_roots : (n : ℕ) → is_in (names_without t.root left) n ≡ is_in (forest_roots others) n
+  remaining_roots : (n : ℕ) → is_in (names_without t.root left) n ≡ is_in (forest_roots others ++ waiting) n
   remaining_roots =
-      without_root left (forest_roots others) t.root
-      (without_root unmatched (t.root ∷ forest_roots others) s.root
-      (λ n. state.roots n ∙ swap_two (t.root == n) (s.root == n) (is_in (forest_roots others) n))
-      (or_from (t.root == s.root) (is_in (forest_roots others) s.root)
+      without_root left (forest_roots others ++ waiting) t.root
+      (without_root unmatched (t.root ∷ (forest_roots others ++ waiting)) s.root
+      (λ n. state.roots n ∙ swap_two (t.root == n) (s.root == n) (is_in (forest_roots others ++ waiting) n))
+      (or_from (t.root == s.root) (is_in (forest_roots others ++ waiting) s.root)
       (ne_eqb t.root s.root
       (λ same.
       both_ways (is_in (tree_names s.root s.branches) t.root) roots_differ
       (ap (is_in (tree_names s.root s.branches)) same
       ∙ plus_in_tree s.root s.branches s.root (root_plus s.root s.branches))))
       second_only))
-      (or_parts (s.root == t.root) (is_in (forest_roots others) t.root) (root_only p nodes t (s ∷ others) rest unmatched r state)).1
+      (or_parts (s.root == t.root) (is_in (forest_roots others ++ waiting) t.root)
+      (root_only p nodes t (s ∷ others) rest unmatched waiting r state)).1
     where
-      second_only : is_in (forest_roots others) s.root ≡ false
+      second_only : is_in (forest_roots others ++ waiting) s.root ≡ false
       second_only =
-          false_from_ne_true (is_in (forest_roots others) s.root)
+          is_in-append (forest_roots others) waiting s.root
+          ∙ or_from (is_in (forest_roots others) s.root) (is_in waiting s.root)
+          (false_from_ne_true (is_in (forest_roots others) s.root)
           (λ h.
           both_ways (is_in (forest_names others) s.root)
           (distinct_across (tree_names s.root s.branches) (forest_names others) s.root
           (distinct_right (tree_names t.root t.branches) (forest_names (s ∷ others)) state.names)
           (plus_in_tree s.root s.branches s.root (root_plus s.root s.branches)))
-          (root_in_names others s.root h))
+          (root_in_names others s.root h)))
+          (root_not_waiting p nodes (t ∷ []) others s rest unmatched waiting r state)
 
   met_forest : (v : ℕ) → LeavesNode nodes out a v → cover_of nodes v ≡ Some b
-      → IsForest p nodes others (met_links t a out s b ++ rest) (names_without t.root left) r
+      → IsForest p nodes others (met_links t a out s b ++ rest) (names_without t.root left) waiting r
   met_forest v leaving cover = record {
     matching =
         matching_named p nodes (forest_paired others ++ (met_links t a out s b ++ rest))
@@ -483,6 +508,13 @@ module _ (p : Problem) (nodes : List Node) (t s : TreeOf Link) (others : List (T
     outer =
         All-tail (λ x. IsOuterNode nodes x.root) s others (All-tail (λ x. IsOuterNode nodes x.root) t (s ∷ others) state.outer);
     roots = remaining_roots;
+    apart = λ n waits.
+        false_from_ne_true (is_in (forest_names others) n)
+        (λ there.
+        both_ways (is_in (forest_names (t ∷ s ∷ others)) n) (state.apart n waits)
+        (is_in-right (tree_names t.root t.branches) (forest_names (s ∷ others)) n
+        (is_in-right (tree_names s.root s.branches) (forest_names others) n there)));
+    even = state.even;
     names =
         distinct_right (tree_names s.root s.branches) (forest_names others)
         (distinct_right (tree_names t.root t.branches) (forest_names (s ∷ others)) state.names);
@@ -501,6 +533,6 @@ module _ (p : Problem) (nodes : List Node) (t s : TreeOf Link) (others : List (T
   }
 
 pub forest_met : ForestMet
-forest_met p nodes t s others rest unmatched r a b out state at_a at_b are connects =
+forest_met p nodes t s others rest unmatched waiting r a b out state at_a at_b are connects =
     let (v, leaving, cover) = ends.out_of nodes out a b connects in
-    met_forest p nodes t s others rest unmatched r a b out state at_a at_b are connects v leaving cover
+    met_forest p nodes t s others rest unmatched waiting r a b out state at_a at_b are connects v leaving cover

@@ -85,21 +85,22 @@ plus_wider before after t new wider n plus = plus_there before after new n (eith
     either (inr there) = inr there
 
 -- a name of one tree that isn't plus there isn't plus elsewhere
-not_plus : (p : Problem) (before after : List AnyTree) (s : SearchState) (n : ℕ) → IsForestState p (among_trees before after s)
-    → is_in (tree_names s.root s.tree) n ≡ true → is_in (plus_names s.root s.tree) n ≡ false
+not_plus : (p : Problem) (before after : List AnyTree) (waiting : List ℕ) (s : SearchState) (n : ℕ)
+    → IsForestState p (among_trees before after waiting s) → is_in (tree_names s.root s.tree) n ≡ true
+    → is_in (plus_names s.root s.tree) n ≡ false
     → is_in (forest_plus (before ++ tree_of s ∷ after)) n ≡ false
-not_plus p before after s n state within out =
+not_plus p before after waiting s n state within out =
     false_from_ne_true (is_in (forest_plus (before ++ tree_of s ∷ after)) n) (λ plus. by (plus_cases before after (tree_of s) n plus))
   where
     by : (is_in (plus_names s.root s.tree) n ≡ true) ⊎ (is_in (forest_plus (before ++ after)) n ≡ true) → ⊥
     by (inl here) = both_ways (is_in (plus_names s.root s.tree) n) out here
     by (inr there) =
         both_ways (is_in (forest_names (before ++ after)) n)
-        (tree_apart p s.nodes before after (tree_of s) s.rest s.unmatched s.parity state.forest n within)
+        (tree_apart p s.nodes before after (tree_of s) s.rest s.unmatched waiting s.parity state.forest n within)
         (plus_in_forest (before ++ after) n there)
 
 pub forest_attached_less : ForestAttachedLess
-forest_attached_less p before after s e rest free freed even may state =
+forest_attached_less p before after waiting s e rest free freed even may state =
     plus_lowers p s.nodes (forest_roles (before ++ tree_of s ∷ after)) (forest_roles (before ++ new ∷ after)) e.plus free freed
     (set_outer p s.nodes e.plus later.nest.dual
     (named_set p s.nodes new.branches (forest_paired (before ++ after) ++ rest) s.unmatched s.root s.parity found e.plus e_plus_in))
@@ -117,12 +118,13 @@ forest_attached_less p before after s e rest free freed even may state =
       trees = before ++ attached_tree (tree_of s) e ∷ after;
       rest = rest;
       unmatched = s.unmatched;
+      waiting = waiting;
       parity = s.parity;
     })
-    later = forest_state_attached p before after s e rest even may state
+    later = forest_state_attached p before after waiting s e rest even may state
 
     found : IsSearch p s.nodes (e ∷ s.tree) (forest_paired (before ++ after) ++ rest) s.unmatched s.root s.parity
-    found = forest_tree p s.nodes before after (attached_tree (tree_of s) e) rest s.unmatched s.parity later.forest
+    found = forest_tree p s.nodes before after (attached_tree (tree_of s) e) rest s.unmatched waiting s.parity later.forest
 
     e_plus_in : is_in (tree_names s.root (e ∷ s.tree)) e.plus ≡ true
     e_plus_in = plus_in_tree s.root (e ∷ s.tree) e.plus (is_in-head e.plus (plus_names s.root s.tree))
@@ -131,29 +133,30 @@ forest_attached_less p before after s e rest free freed even may state =
     by (inl here) = both_ways (is_in (tree_names s.root s.tree) e.plus) found.names.1.0 (plus_in_tree s.root s.tree e.plus here)
     by (inr there) =
         both_ways (is_in (forest_names (before ++ after)) e.plus)
-        (tree_apart p s.nodes before after (attached_tree (tree_of s) e) rest s.unmatched s.parity later.forest e.plus e_plus_in)
+        (tree_apart p s.nodes before after (attached_tree (tree_of s) e) rest s.unmatched waiting s.parity later.forest e.plus e_plus_in)
         (plus_in_forest (before ++ after) e.plus there)
 
 -- branches of one tree joined, of which one has a minus node
-forest_joined_less : (p : Problem) (before after : List AnyTree) (s : SearchState) (name : ℕ) (base : Child) (others : List Child)
-    (links : List Link) (free freed : Bool) → IsJoining s.nodes s.tree s.root name base others → 1 ≤ length others
-    → is_live s.nodes name ≡ false → IsForestState p (among_trees before after s)
-    → IsLower (forest_to_do p (among_trees before after (joined_state name (names_of (base ∷ others)) links s)) freed)
-    (forest_to_do p (among_trees before after s) free)
-forest_joined_less p before after s name base others links free freed joining some fresh state =
+forest_joined_less : (p : Problem) (before after : List AnyTree) (waiting : List ℕ) (s : SearchState) (name : ℕ) (base : Child)
+    (others : List Child) (links : List Link) (free freed : Bool) → IsJoining s.nodes s.tree s.root name base others → 1 ≤ length others
+    → is_live s.nodes name ≡ false → IsForestState p (among_trees before after waiting s)
+    → IsLower (forest_to_do p (among_trees before after waiting (joined_state name (names_of (base ∷ others)) links s)) freed)
+    (forest_to_do p (among_trees before after waiting s) free)
+forest_joined_less p before after waiting s name base others links free freed joining some fresh state =
     let (minus, among, inner) = some_minus joins s.tree (omega (arith, some, joining.even)) in
     let within : is_in (tree_names s.root s.tree) minus ≡ true = minus_in_tree s.root s.tree minus among in
     subst
     (λ ns. IsLower (left_to_do p ns (forest_roles (before ++ new ∷ after)) freed)
     (left_to_do p s.nodes (forest_roles (before ++ tree_of s ∷ after)) free))
-    (named p before after s name base others joining some fresh state)
+    (named p before after waiting s name base others joining some fresh state)
     (blossom_lowers p s.nodes (forest_roles (before ++ tree_of s ∷ after)) (forest_roles (before ++ new ∷ after)) name base others
-    minus free freed joining.nodes_are state.nest.dual (formed_dual p before after s name base others joining some fresh state)
-    joining.fresh (λ n plus. plus_there before after new (renamed_name joins name n) (still n (plus_cases before after (tree_of s) n plus)))
+    minus free freed joining.nodes_are state.nest.dual (formed_dual p before after waiting s name base others joining some fresh state)
+    joining.fresh
+    (λ n plus. plus_there before after new (renamed_name joins name n) (still n (plus_cases before after (tree_of s) n plus)))
     (plus_there before after (tree_of s) base.name (inl joining.plus))
     (set_outer p s.nodes minus state.nest.dual
     (named_set p s.nodes s.tree (forest_paired (before ++ after) ++ s.rest) s.unmatched s.root s.parity search minus within))
-    (not_plus p before after s minus state within
+    (not_plus p before after waiting s minus state within
     (false_from_ne_true (is_in (plus_names s.root s.tree) minus)
     (λ plus. both_ways (is_in (minus_names s.tree) minus) (exclusive_names s.root s.tree search.names minus plus) among)))
     inner)
@@ -169,7 +172,7 @@ forest_joined_less p before after s name base others links free freed joining so
         }
 
     search : IsSearch p s.nodes s.tree (forest_paired (before ++ after) ++ s.rest) s.unmatched s.root s.parity
-    search = forest_tree p s.nodes before after (tree_of s) s.rest s.unmatched s.parity state.forest
+    search = forest_tree p s.nodes before after (tree_of s) s.rest s.unmatched waiting s.parity state.forest
 
     still : (n : ℕ) → (is_in (plus_names s.root s.tree) n ≡ true) ⊎ (is_in (forest_plus (before ++ after)) n ≡ true)
         → (is_in (plus_names new.root new.branches) (renamed_name (is_in (names_of (base ∷ others))) name n) ≡ true)
@@ -180,47 +183,47 @@ forest_joined_less p before after s name base others links free freed joining so
         inr
         (ap (is_in (forest_plus (before ++ after)))
         (new_out (is_in (names_of (base ∷ others))) name base.name s.root n
-        (not_joined p before after s name base others joining some fresh state n (plus_in_forest (before ++ after) n there)))
+        (not_joined p before after waiting s name base others joining some fresh state n (plus_in_forest (before ++ after) n there)))
         ∙ there)
 
 pub forest_closed_less : ForestClosedLess
-forest_closed_less p before after s name a b closing shared up down free freed may paths state =
-    let search = forest_tree p s.nodes before after (tree_of s) s.rest s.unmatched s.parity state.forest in
+forest_closed_less p before after waiting s name a b closing shared up down free freed may paths state =
+    let search = forest_tree p s.nodes before after (tree_of s) s.rest s.unmatched waiting s.parity state.forest in
     let rest : List Link = forest_paired (before ++ after) ++ s.rest in
     subst
     (λ names.
     IsLower
     (forest_to_do p
-    (among_trees before after (joined_state name (last_plus s.root shared ∷ names) (cycle_links up closing down) s)) freed)
-    (forest_to_do p (among_trees before after s) free))
+    (among_trees before after waiting (joined_state name (last_plus s.root shared ∷ names) (cycle_links up closing down) s)) freed)
+    (forest_to_do p (among_trees before after waiting s) free))
     (names_at s.nodes (cycle_nodes up down))
-    (forest_joined_less p before after s name (child_at s.nodes (last_plus s.root shared))
+    (forest_joined_less p before after waiting s name (child_at s.nodes (last_plus s.root shared))
     (map (child_at s.nodes) (cycle_nodes up down)) (cycle_links up closing down) free freed
     (ring_joining p s name a b closing shared up down may paths rest state.nest search)
     (ring_some p s name a b closing shared up down may paths rest state.nest search) may.fresh state)
 
 pub forest_rounded_less : ForestRoundedLess
-forest_rounded_less p before after s name newer older e closing free freed tree_is closes tight fresh state =
-    let search = forest_tree p s.nodes before after (tree_of s) s.rest s.unmatched s.parity state.forest in
-    forest_joined_less p before after s name (child_at s.nodes e.parent) (child_at s.nodes e.minus ∷ child_at s.nodes e.plus ∷ [])
+forest_rounded_less p before after waiting s name newer older e closing free freed tree_is closes tight fresh state =
+    let search = forest_tree p s.nodes before after (tree_of s) s.rest s.unmatched waiting s.parity state.forest in
+    forest_joined_less p before after waiting s name (child_at s.nodes e.parent) (child_at s.nodes e.minus ∷ child_at s.nodes e.plus ∷ [])
     (e.tree ∷ e.matched ∷ closing ∷ []) free freed
     (rounded_joining p s name newer older e closing tree_is closes tight fresh (forest_paired (before ++ after) ++ s.rest) state.nest
     search)
     (omega arith) fresh state
 
 pub forest_opened_less : ForestOpenedLess
-forest_opened_less p before after s newer older e from way couples free freed tree_is may cycle state =
+forest_opened_less p before after waiting s newer older e from way couples free freed tree_is may cycle state =
     split_lowers p s.nodes e.minus (last_of from way ∷ paired_of from way couples) (forest_roles (before ++ tree_of s ∷ after))
     (forest_roles (before ++ record { root = s.root; branches = opened_tree newer e older from way } ∷ after)) free freed state.nest
     may cycle.split
-    (not_plus p before after s e.minus state (minus_in_tree s.root s.tree e.minus minus)
+    (not_plus p before after waiting s e.minus state (minus_in_tree s.root s.tree e.minus minus)
     (false_from_ne_true (is_in (plus_names s.root s.tree) e.minus)
     (λ plus. both_ways (is_in (minus_names s.tree) e.minus) (exclusive_names s.root s.tree search.names e.minus plus) minus)))
     (plus_wider before after (tree_of s) (record { root = s.root; branches = opened_tree newer e older from way })
     (λ n plus. still_plus newer older e s.root from n way (ap (λ t. is_in (plus_names s.root t) n) (sym tree_is) ∙ plus)))
   where
     search : IsSearch p s.nodes s.tree (forest_paired (before ++ after) ++ s.rest) s.unmatched s.root s.parity
-    search = forest_tree p s.nodes before after (tree_of s) s.rest s.unmatched s.parity state.forest
+    search = forest_tree p s.nodes before after (tree_of s) s.rest s.unmatched waiting s.parity state.forest
 
     minus : is_in (minus_names s.tree) e.minus ≡ true
     minus =

@@ -1,5 +1,5 @@
 -- The whole state of a half-solved part while several trees grow: how it begins and ends, and what doesn't matter in it.
-use Rattle.std.proofs.Common.{ℕ, ◌≡◌, ◌≤◌, inl, inr, false, List, [], ◌∷◌, ◌++◌, map, length, All, Some, refl, sym, ap, ◌∙◌, subst, arith}
+use Rattle.std.proofs.Common.{ℕ, ◌≡◌, ◌≤◌, ◌||◌, inl, inr, false, List, [], ◌∷◌, ◌++◌, map, length, All, Some, refl, sym, ap, ◌∙◌, subst, arith}
 use Rattle.std.proofs.lemmas.Bool.{both_ways, false_from_ne_true}
 use Rattle.std.proofs.lemmas.List.Elements.{All-head, All-tail}
 use Rattle.std.proofs.lemmas.List.Sorted.{All-permutation, IsPermutation-append, IsPermutation-map, IsPermutation-refl}
@@ -16,8 +16,9 @@ use Rattle.fb_graph.specs.Steps.{MayStep}
 use Rattle.fb_graph.proofs.Crossings.{free_step}
 use Rattle.fb_graph.proofs.EndSums.{ends_append}
 use Rattle.fb_graph.proofs.Floods.{is_in-left, is_in-right}
+use Rattle.fb_graph.proofs.Members.{is_in-append}
 use Rattle.fb_graph.proofs.Nodes.{All-right}
-use Rattle.fb_graph.proofs.Sets.{All-from_is_in, is_in-head}
+use Rattle.fb_graph.proofs.Sets.{All-from_is_in}
 use Rattle.fb_laws.specs.Forests.{AnyTree, IsForest, forest_grown, forest_names, forest_paired, forest_plus, forest_roles, forest_roots}
 use Rattle.fb_laws.specs.ForestStates.{ForestMatchOfMet, ForestMateOutside, ForestStateBegins, ForestStateDone, ForestStateFree, ForestStatePermuted, ForestStateRelisted, ForestTight}
 use Rattle.fb_laws.specs.Fusion.{IsLinkOf}
@@ -27,7 +28,7 @@ use Rattle.fb_laws.specs.PartStates.{all_cycle_links}
 use Rattle.fb_laws.specs.Searches.{IsOuterNode}
 use Rattle.fb_laws.specs.Trees.{Connects, IsTree, grown_links, paired_links, plus_names, tree_names}
 use Rattle.fb_laws.specs.Works.{AreMatchedLinks, IsSetOf}
-use Rattle.fb_laws.proofs.ForestEnds.{forest_done, matching_named, root_in_names}
+use Rattle.fb_laws.proofs.ForestEnds.{forest_done, matching_named, root_in_names, with_waiting}
 use Rattle.fb_laws.proofs.ForestStates.{rest_beside}
 use Rattle.fb_laws.proofs.ForestSteps.{forest_begins, forest_roles_are, plus_in_forest}
 use Rattle.fb_laws.proofs.HalvesKept.{matching_permuted}
@@ -41,34 +42,33 @@ use Rattle.fb_laws.proofs.SearchStates.{links_joined, links_left, links_right}
 use Rattle.fb_laws.proofs.SearchTrees.{cover_place, matched_named}
 use Rattle.fb_laws.proofs.StateOrders.{cycles_agree}
 use Rattle.fb_laws.proofs.StepLengths.{greatest_step}
+use Rattle.fb_laws.proofs.TreePaths.{distinct_right}
 
 pub forest_state_begins : ForestStateBegins
-forest_state_begins p s state = record {
+forest_state_begins p s roots waiting state distinct same = record {
   nest = state.work.nest;
   forest =
-      forest_begins p s.nodes s.matches s.unmatched state.work.work state.names.distinct
-      (All-from_is_in (λ n. IsOuterNode s.nodes n) s.unmatched (λ n within. unmatched_outer p s n state within));
+      forest_begins p s.nodes s.matches s.unmatched roots waiting state.work.work distinct same
+      (All-from_is_in (λ n. IsOuterNode s.nodes n) roots
+      (λ n within. unmatched_outer p s n state (same n ∙ is_in-left roots waiting n within)));
   walks = state.work.walks;
   outer = state.work.outer;
   cycles = state.cycles;
   names = state.names;
+  waiting = distinct_right roots waiting distinct;
 }
-
-none_in : (names : List ℕ) → ((n : ℕ) → is_in names n ≡ false) → names ≡ []
-none_in [] none = refl
-none_in (n ∷ ns) none = absurd (both_ways (is_in (n ∷ ns) n) (none n) (is_in-head n ns))
 
 pub forest_state_done : ForestStateDone
 forest_state_done p s no_tree state =
-    let (work, none) =
-    forest_done p s.nodes s.rest s.unmatched s.parity
-    (subst (λ ts. IsForest p s.nodes ts s.rest s.unmatched s.parity) no_tree state.forest) in (
+    let (work, same) =
+    forest_done p s.nodes s.rest s.unmatched s.waiting s.parity
+    (subst (λ ts. IsForest p s.nodes ts s.rest s.unmatched s.waiting s.parity) no_tree state.forest) in (
       record {
         work = record { nest = state.nest; work = work; walks = state.walks; outer = state.outer };
         cycles = state.cycles;
         names = state.names;
       },
-      none_in s.unmatched none,
+      same,
     )
 
 -- links in another order
@@ -82,10 +82,10 @@ links_reordered p nodes links more moved are = record {
 
 -- a forest in another order
 pub forest_permuted : (p : Problem) (nodes : List Node) (trees other : List AnyTree) (rest more : List Link)
-    (unmatched listed : List ℕ) (r : ℕ) → IsPermutation trees other → IsPermutation rest more
-    → ((n : ℕ) → is_in listed n ≡ is_in unmatched n) → IsForest p nodes trees rest unmatched r
-    → IsForest p nodes other more listed r
-forest_permuted p nodes trees other rest more unmatched listed r moved links same state = record {
+    (unmatched listed waiting : List ℕ) (r : ℕ) → IsPermutation trees other → IsPermutation rest more
+    → ((n : ℕ) → is_in listed n ≡ is_in unmatched n) → IsForest p nodes trees rest unmatched waiting r
+    → IsForest p nodes other more listed waiting r
+forest_permuted p nodes trees other rest more unmatched listed waiting r moved links same state = record {
   matching =
       matching_named p nodes (forest_paired other ++ more) unmatched listed same
       (matching_permuted p nodes (forest_paired trees ++ rest) (forest_paired other ++ more) unmatched
@@ -96,7 +96,11 @@ forest_permuted p nodes trees other rest more unmatched listed r moved links sam
   roots = λ n.
       same n
       ∙ (state.roots n
-      ∙ sym (same_permuted (forest_roots trees) (forest_roots other) (IsPermutation-map (λ (t : AnyTree). t.root) trees other moved) n));
+      ∙ with_waiting (forest_roots trees) (forest_roots other) waiting n
+      (sym
+      (same_permuted (forest_roots trees) (forest_roots other) (IsPermutation-map (λ (t : AnyTree). t.root) trees other moved) n)));
+  apart = λ n waits. same_permuted (forest_names trees) (forest_names other) names n ∙ state.apart n waits;
+  even = state.even;
   names = distinct_permuted (forest_names trees) (forest_names other) names state.names;
   joined = All-permutation (λ t. IsTree nodes t.root t.branches) trees other moved state.joined;
   grown =
@@ -109,28 +113,50 @@ forest_permuted p nodes trees other rest more unmatched listed r moved links sam
     names : IsPermutation (forest_names trees) (forest_names other)
     names = each_permuted (λ t. tree_names t.root t.branches) trees other moved
 
+-- nodes that wait, of which only membership counts
+waiting_named : (p : Problem) (nodes : List Node) (trees : List AnyTree) (rest : List Link) (unmatched waiting listed : List ℕ) (r : ℕ)
+    → ((n : ℕ) → is_in listed n ≡ is_in waiting n) → IsForest p nodes trees rest unmatched waiting r
+    → IsForest p nodes trees rest unmatched listed r
+waiting_named p nodes trees rest unmatched waiting listed r same state = record {
+  matching = state.matching;
+  outer = state.outer;
+  roots = λ n.
+      state.roots n
+      ∙ (is_in-append (forest_roots trees) waiting n
+      ∙ (ap (λ b. is_in (forest_roots trees) n || b) (sym (same n)) ∙ sym (is_in-append (forest_roots trees) listed n)));
+  apart = λ n waits. state.apart n (sym (same n) ∙ waits);
+  even = λ d name leaf cover waits. state.even d name leaf cover (sym (same name) ∙ waits);
+  names = state.names;
+  joined = state.joined;
+  grown = state.grown;
+  parity = state.parity;
+}
+
 pub forest_state_permuted : ForestStatePermuted
 forest_state_permuted p s trees rest moved links state = record {
   nest = state.nest;
   forest =
-      forest_permuted p s.nodes s.trees trees s.rest rest s.unmatched s.unmatched s.parity moved links (λ n. refl)
+      forest_permuted p s.nodes s.trees trees s.rest rest s.unmatched s.unmatched s.waiting s.parity moved links (λ n. refl)
       state.forest;
   walks = state.walks;
   outer = state.outer;
   cycles = state.cycles;
   names = state.names;
+  waiting = state.waiting;
 }
 
 pub forest_state_relisted : ForestStateRelisted
-forest_state_relisted p s cycles unmatched agree distinct same state = record {
+forest_state_relisted p s cycles unmatched waiting agree distinct same apart alike state = record {
   nest = state.nest;
   forest =
-      forest_permuted p s.nodes s.trees s.trees s.rest s.rest s.unmatched unmatched s.parity (IsPermutation-refl s.trees)
-      (IsPermutation-refl s.rest) same state.forest;
+      waiting_named p s.nodes s.trees s.rest unmatched s.waiting waiting s.parity alike
+      (forest_permuted p s.nodes s.trees s.trees s.rest s.rest s.unmatched unmatched s.waiting s.parity
+      (IsPermutation-refl s.trees) (IsPermutation-refl s.rest) same state.forest);
   walks = state.walks;
   outer = λ n within. state.outer n (sym (same n) ∙ within);
   cycles = cycles_agree p s.nodes s.cycles cycles agree state.cycles;
   names = record { live = λ n within. state.names.live n (sym (same n) ∙ within); distinct = distinct };
+  waiting = apart;
 }
 
 pub forest_tight : ForestTight
@@ -171,12 +197,15 @@ no_root trees n out =
     false_from_ne_true (is_in (forest_roots trees) n) (λ h. both_ways (is_in (forest_names trees) n) out (root_in_names trees n h))
 
 pub forest_match_of_met : ForestMatchOfMet
-forest_match_of_met p s name state live outer out =
+forest_match_of_met p s name state live outer out awake =
     match_among p s.nodes s.rest name state.nest.dual rest set
     (omega (
       arith,
       matched_named p s.nodes (forest_paired s.trees ++ s.rest) s.unmatched name (top_at s.nodes name) state.forest.matching set,
-      ap as_count (state.forest.roots name ∙ no_root s.trees name out),
+      ap as_count
+          (state.forest.roots name
+          ∙ (is_in-append (forest_roots s.trees) s.waiting name
+          ∙ (ap (λ b. b || is_in s.waiting name) (no_root s.trees name out) ∙ awake))),
       ends_append (top_at s.nodes name) (forest_paired s.trees) s.rest,
       none_in_forest s.nodes s.trees name state.nest.dual.names state.forest.joined out other,
     ))
@@ -207,7 +236,7 @@ forest_mate_outside p s before l after name mate rest_is connects state = by con
     out =
         All-head Outside l after
         (All-right Outside before (l ∷ after)
-        (subst (All Outside) rest_is (rest_beside p s.nodes s.trees s.rest s.unmatched s.parity state.forest)))
+        (subst (All Outside) rest_is (rest_beside p s.nodes s.trees s.rest s.unmatched s.waiting s.parity state.forest)))
 
     by : Connects s.nodes l name mate → (is_in (forest_names s.trees) name ≡ false) × (is_in (forest_names s.trees) mate ≡ false)
     by (inl (from, to)) = (out.0 name from, out.1 mate to)
@@ -228,7 +257,7 @@ has_plus nodes (t ∷ ts) outer some =
 
 pub forest_state_free : ForestStateFree
 forest_state_free p s even no_odd some clear state =
-    let are = forest_roles_are p s.nodes s.trees s.rest s.unmatched s.parity state.forest in
+    let are = forest_roles_are p s.nodes s.trees s.rest s.unmatched s.waiting s.parity state.forest in
     let may : MayStep p (forest_roles s.trees) s.nodes 1 =
     free_step p (forest_roles s.trees) s.nodes s.parity state.nest.dual are
     (λ d name leaf cover plus. state.forest.parity d name leaf cover (plus_in_forest s.trees name plus)) even clear in

@@ -1,6 +1,6 @@
 -- Several trees that grow at once: each is the tree of a search, and steps and attached nodes keep them.
-use Rattle.std.proofs.Common.{ℕ, ◌≡◌, ◌%◌, ◌||◌, ◌⊎◌, inl, inr, Bool, true, false, List, [], ◌∷◌, ◌++◌, All, Some, get_or, refl, sym, ap, ◌∙◌, subst, append_assoc}
-use Rattle.std.proofs.lemmas.Bool.{both_ways, false≢true, false_from_ne_true}
+use Rattle.std.proofs.Common.{ℕ, ◌≡◌, ◌%◌, ◌==◌, ◌||◌, ◌⊎◌, inl, inr, not, Bool, true, false, List, [], ◌∷◌, ◌++◌, All, Some, get_or, refl, sym, ap, ◌∙◌, subst, append_assoc}
+use Rattle.std.proofs.lemmas.Bool.{both_ways, and_from, false≢true, false_from_ne_true, ne_eqb, not_from_false, or_from}
 use Rattle.std.proofs.lemmas.List.Elements.{All-cons, All-head, All-tail, All-append}
 use Rattle.std.proofs.lemmas.List.Sorted.{All-permutation, IsPermutation-sym, IsPermutation-middle, IsPermutation-append_comm, IsPermutation-append_left}
 use Rattle.std.specs.List.Sorted.{IsPermutation}
@@ -14,7 +14,7 @@ use Rattle.fb_graph.specs.Links.{IsTightLink}
 use Rattle.fb_graph.proofs.Floods.{is_in-both, is_in-left, is_in-right}
 use Rattle.fb_graph.proofs.Members.{distinct_left, is_in-append}
 use Rattle.fb_graph.proofs.Nodes.{All-left, All-right}
-use Rattle.fb_graph.proofs.Sets.{is_in-cases, is_in-head}
+use Rattle.fb_graph.proofs.Sets.{is_in-cases, is_in-filter, is_in-head}
 use Rattle.fb_graph.proofs.Unions.{distinct_append}
 use Rattle.fb_laws.specs.Fusion.{IsLinkOf}
 use Rattle.fb_laws.specs.Opening.{EndsAtDefects}
@@ -23,10 +23,11 @@ use Rattle.fb_laws.specs.Trees.{Entry, Connects, IsTree, grown_links, paired_lin
 use Rattle.fb_laws.specs.Searches.{IsOuterNode, IsSearch}
 use Rattle.fb_laws.specs.Forests.{ForestAttached, ForestTree, IsForest, TreeOf, forest_grown, forest_names, forest_paired, forest_roots, from_each}
 use Rattle.fb_laws.proofs.HalvesKept.{matching_permuted}
+use Rattle.fb_laws.proofs.JoinedThree.{root_plus}
 use Rattle.fb_laws.proofs.MergedParts.{distinct_across}
 use Rattle.fb_laws.proofs.OpenedBlossoms.{distinct_permuted, same_permuted}
-use Rattle.fb_laws.proofs.SearchStates.{outside, search_attached, search_permuted}
-use Rattle.fb_laws.proofs.SearchTrees.{connects_sym}
+use Rattle.fb_laws.proofs.SearchStates.{outside, search_attached, search_permuted, unmatched_outside}
+use Rattle.fb_laws.proofs.SearchTrees.{connects_sym, plus_in_tree}
 use Rattle.fb_laws.proofs.TreePaths.{distinct_right}
 
 -- the lists of two forests, one after the other
@@ -121,13 +122,15 @@ root_of_one (s ∷ before) after t =
     is_in-right (s.root ∷ []) (forest_roots (before ++ t ∷ after)) t.root (root_of_one before after t)
 
 pub forest_tree : ForestTree
-forest_tree p nodes before after t rest unmatched r state = record {
+forest_tree p nodes before after t rest unmatched waiting r state = record {
   matching =
       matching_permuted p nodes (forest_paired (before ++ t ∷ after) ++ rest)
       (paired_links t.branches ++ (forest_paired (before ++ after) ++ rest)) unmatched (paired_first before after t rest)
       state.matching;
   root_is = (all_mid (λ s. IsOuterNode nodes s.root) before after t state.outer).0;
-  open_root = state.roots t.root ∙ root_of_one before after t;
+  open_root =
+      state.roots t.root
+      ∙ is_in-left (forest_roots (before ++ t ∷ after)) waiting t.root (root_of_one before after t);
   names =
       distinct_left (tree_names t.root t.branches) (forest_names (before ++ after))
       (distinct_permuted (forest_names (before ++ t ∷ after)) (tree_names t.root t.branches ++ forest_names (before ++ after))
@@ -168,12 +171,12 @@ held_by (t ∷ ts) n has =
         }
 
 -- no other link ends under a tree
-pub rest_beside : (p : Problem) (nodes : List Node) (trees : List (TreeOf Link)) (rest : List Link) (unmatched : List ℕ) (r : ℕ)
-    → IsForest p nodes trees rest unmatched r
+pub rest_beside : (p : Problem) (nodes : List Node) (trees : List (TreeOf Link)) (rest : List Link) (unmatched waiting : List ℕ) (r : ℕ)
+    → IsForest p nodes trees rest unmatched waiting r
     → All
     (λ l. ((name : ℕ) → cover_of nodes l.from ≡ Some name → is_in (forest_names trees) name ≡ false)
     × ((name : ℕ) → cover_of nodes l.to ≡ Some name → is_in (forest_names trees) name ≡ false)) rest
-rest_beside p nodes trees rest unmatched r state i d less = (
+rest_beside p nodes trees rest unmatched waiting r state i d less = (
   λ name cover. false_from_ne_true (is_in (forest_names trees) name) (λ among. (by name (held_by trees name among)).0 cover),
   λ name cover. false_from_ne_true (is_in (forest_names trees) name) (λ among. (by name (held_by trees name among)).1 cover),
 )
@@ -181,9 +184,9 @@ rest_beside p nodes trees rest unmatched r state i d less = (
     by : (name : ℕ) → IsHeld trees name
         → (cover_of nodes (get_or rest i d).from ≡ Some name → ⊥) × (cover_of nodes (get_or rest i d).to ≡ Some name → ⊥)
     by name held =
-        let moved : IsForest p nodes (held.before ++ held.tree ∷ held.after) rest unmatched r =
-        subst (λ ts. IsForest p nodes ts rest unmatched r) held.there state in
-        let search = forest_tree p nodes held.before held.after held.tree rest unmatched r moved in
+        let moved : IsForest p nodes (held.before ++ held.tree ∷ held.after) rest unmatched waiting r =
+        subst (λ ts. IsForest p nodes ts rest unmatched waiting r) held.there state in
+        let search = forest_tree p nodes held.before held.after held.tree rest unmatched waiting r moved in
         let away =
         All-right
         (λ l. ((n : ℕ) → cover_of nodes l.from ≡ Some n → is_in (tree_names held.tree.root held.tree.branches) n ≡ false)
@@ -206,8 +209,9 @@ pub record AreTrees (p : Problem) (nodes : List Node) (trees : List (TreeOf Link
 
 -- those beside one tree
 pub trees_beside : (p : Problem) (nodes : List Node) (before after : List (TreeOf Link)) (t : TreeOf Link) (rest : List Link)
-    (unmatched : List ℕ) (r : ℕ) → IsForest p nodes (before ++ t ∷ after) rest unmatched r → AreTrees p nodes (before ++ after) r
-trees_beside p nodes before after t rest unmatched r state = record {
+    (unmatched waiting : List ℕ) (r : ℕ) → IsForest p nodes (before ++ t ∷ after) rest unmatched waiting r
+    → AreTrees p nodes (before ++ after) r
+trees_beside p nodes before after t rest unmatched waiting r state = record {
   outer = (all_mid (λ s. IsOuterNode nodes s.root) before after t state.outer).1;
   names =
       distinct_right (tree_names t.root t.branches) (forest_names (before ++ after))
@@ -227,22 +231,65 @@ trees_beside p nodes before after t rest unmatched r state = record {
 
 -- what is in a tree is in none of those beside it
 pub tree_apart : (p : Problem) (nodes : List Node) (before after : List (TreeOf Link)) (t : TreeOf Link) (rest : List Link)
-    (unmatched : List ℕ) (r : ℕ) → IsForest p nodes (before ++ t ∷ after) rest unmatched r
+    (unmatched waiting : List ℕ) (r : ℕ) → IsForest p nodes (before ++ t ∷ after) rest unmatched waiting r
     → (n : ℕ) → is_in (tree_names t.root t.branches) n ≡ true → is_in (forest_names (before ++ after)) n ≡ false
-tree_apart p nodes before after t rest unmatched r state n within =
+tree_apart p nodes before after t rest unmatched waiting r state n within =
     distinct_across (tree_names t.root t.branches) (forest_names (before ++ after)) n
     (distinct_permuted (forest_names (before ++ t ∷ after)) (tree_names t.root t.branches ++ forest_names (before ++ after))
     (names_first before after t) state.names)
     within
 
+-- Nodes that wait are in none of these trees, and their potentials are even.
+pub record AreWaiting (nodes : List Node) (trees : List (TreeOf Link)) (waiting : List ℕ) : Type 0 where
+  pub apart : (n : ℕ) → is_in waiting n ≡ true → is_in (forest_names trees) n ≡ false
+  pub even : HaveParity (is_in waiting) nodes 0
+
+-- they are in none of the trees beside one
+pub waiting_beside : (p : Problem) (nodes : List Node) (before after : List (TreeOf Link)) (t : TreeOf Link) (rest : List Link)
+    (unmatched waiting : List ℕ) (r : ℕ) → IsForest p nodes (before ++ t ∷ after) rest unmatched waiting r
+    → AreWaiting nodes (before ++ after) waiting
+waiting_beside p nodes before after t rest unmatched waiting r state = record {
+  apart = λ n waits.
+      false_from_ne_true (is_in (forest_names (before ++ after)) n)
+      (λ there.
+      both_ways (is_in (forest_names (before ++ t ∷ after)) n) (state.apart n waits)
+      (sym
+      (same_permuted (forest_names (before ++ t ∷ after)) (tree_names t.root t.branches ++ forest_names (before ++ after))
+      (names_first before after t) n)
+      ∙ is_in-right (tree_names t.root t.branches) (forest_names (before ++ after)) n there));
+  even = state.even;
+}
+
+-- no root waits
+pub root_not_waiting : (p : Problem) (nodes : List Node) (before after : List (TreeOf Link)) (t : TreeOf Link) (rest : List Link)
+    (unmatched waiting : List ℕ) (r : ℕ) → IsForest p nodes (before ++ t ∷ after) rest unmatched waiting r
+    → is_in waiting t.root ≡ false
+root_not_waiting p nodes before after t rest unmatched waiting r state =
+    false_from_ne_true (is_in waiting t.root)
+    (λ waits.
+    both_ways (is_in (forest_names (before ++ t ∷ after)) t.root) (state.apart t.root waits)
+    (in_forest before after t t.root (plus_in_tree t.root t.branches t.root (root_plus t.root t.branches))))
+
+-- of the nodes in the tree of a search the root alone is unmatched
+pub waiting_outside : (p : Problem) (nodes : List Node) (tree : List Entry) (rest : List Link) (unmatched waiting : List ℕ) (root r : ℕ)
+    → IsSearch p nodes tree rest unmatched root r → ((n : ℕ) → is_in waiting n ≡ true → is_in unmatched n ≡ true)
+    → is_in waiting root ≡ false → (n : ℕ) → is_in waiting n ≡ true → is_in (tree_names root tree) n ≡ false
+waiting_outside p nodes tree rest unmatched waiting root r search within grows n waits =
+    unmatched_outside p nodes tree rest unmatched root r search n
+    (is_in-filter (λ m. not (m == root)) unmatched n
+    ∙ and_from (is_in unmatched n) (not (n == root)) (within n waits)
+    (not_from_false (n == root)
+    (ne_eqb n root (λ same. both_ways (is_in waiting root) grows (ap (is_in waiting) (sym same) ∙ waits)))))
+
 -- the tree of a search put among trees
 pub forest_put : (p : Problem) (nodes : List Node) (before after : List (TreeOf Link)) (t : TreeOf Link) (rest : List Link)
-    (unmatched : List ℕ) (r : ℕ) → AreTrees p nodes (before ++ after) r
+    (unmatched waiting : List ℕ) (r : ℕ) → AreTrees p nodes (before ++ after) r → AreWaiting nodes (before ++ after) waiting
+    → is_in waiting t.root ≡ false
     → IsSearch p nodes t.branches (forest_paired (before ++ after) ++ rest) unmatched t.root r
     → ((n : ℕ) → is_in (tree_names t.root t.branches) n ≡ true → is_in (forest_names (before ++ after)) n ≡ false)
-    → ((n : ℕ) → is_in unmatched n ≡ is_in (forest_roots (before ++ t ∷ after)) n)
-    → IsForest p nodes (before ++ t ∷ after) rest unmatched r
-forest_put p nodes before after t rest unmatched r beside found apart roots = record {
+    → ((n : ℕ) → is_in unmatched n ≡ is_in (forest_roots (before ++ t ∷ after) ++ waiting) n)
+    → IsForest p nodes (before ++ t ∷ after) rest unmatched waiting r
+forest_put p nodes before after t rest unmatched waiting r beside waits grows found apart roots = record {
   matching =
       matching_permuted p nodes (paired_links t.branches ++ (forest_paired (before ++ after) ++ rest))
       (forest_paired (before ++ t ∷ after) ++ rest) unmatched
@@ -251,6 +298,16 @@ forest_put p nodes before after t rest unmatched r beside found apart roots = re
       found.matching;
   outer = all_back (λ s. IsOuterNode nodes s.root) before after t found.root_is beside.outer;
   roots = roots;
+  apart = λ n waiting_n.
+      sym
+      (same_permuted (forest_names (before ++ t ∷ after)) (tree_names t.root t.branches ++ forest_names (before ++ after))
+      (names_first before after t) n)
+      ∙ (is_in-append (tree_names t.root t.branches) (forest_names (before ++ after)) n
+      ∙ or_from (is_in (tree_names t.root t.branches) n) (is_in (forest_names (before ++ after)) n)
+      (waiting_outside p nodes t.branches (forest_paired (before ++ after) ++ rest) unmatched waiting t.root r found
+      (λ m waits_m. roots m ∙ is_in-right (forest_roots (before ++ t ∷ after)) waiting m waits_m) grows n waiting_n)
+      (waits.apart n waiting_n));
+  even = waits.even;
   names =
       distinct_permuted (tree_names t.root t.branches ++ forest_names (before ++ after)) (forest_names (before ++ t ∷ after))
       (IsPermutation-sym (forest_names (before ++ t ∷ after)) (tree_names t.root t.branches ++ forest_names (before ++ after))
@@ -278,14 +335,16 @@ forest_put p nodes before after t rest unmatched r beside found apart roots = re
 
 -- the forest with other branches of one tree, as a search has them
 forest_with : (p : Problem) (nodes : List Node) (before after : List (TreeOf Link)) (t : TreeOf Link) (branches : List Entry)
-    (first rest : List Link) (unmatched : List ℕ) (r : ℕ) → IsForest p nodes (before ++ t ∷ after) first unmatched r
+    (first rest : List Link) (unmatched waiting : List ℕ) (r : ℕ) → IsForest p nodes (before ++ t ∷ after) first unmatched waiting r
     → IsSearch p nodes branches (forest_paired (before ++ after) ++ rest) unmatched t.root r
     → ((n : ℕ) → is_in (tree_names t.root branches) n ≡ true → is_in (forest_names (before ++ after)) n ≡ false)
-    → IsForest p nodes (before ++ record { root = t.root; branches = branches } ∷ after) rest unmatched r
-forest_with p nodes before after t branches first rest unmatched r state found apart =
-    forest_put p nodes before after (record { root = t.root; branches = branches }) rest unmatched r
-    (trees_beside p nodes before after t first unmatched r state) found apart
-    (λ n. state.roots n ∙ ap (λ l. is_in l n) (same_roots before))
+    → IsForest p nodes (before ++ record { root = t.root; branches = branches } ∷ after) rest unmatched waiting r
+forest_with p nodes before after t branches first rest unmatched waiting r state found apart =
+    forest_put p nodes before after (record { root = t.root; branches = branches }) rest unmatched waiting r
+    (trees_beside p nodes before after t first unmatched waiting r state)
+    (waiting_beside p nodes before after t first unmatched waiting r state)
+    (root_not_waiting p nodes before after t first unmatched waiting r state) found apart
+    (λ n. state.roots n ∙ ap (λ l. is_in (l ++ waiting) n) (same_roots before))
   where
     same_roots : (trees : List (TreeOf Link))
         → forest_roots (trees ++ t ∷ after) ≡ forest_roots (trees ++ record { root = t.root; branches = branches } ∷ after)
@@ -293,13 +352,13 @@ forest_with p nodes before after t branches first rest unmatched r state found a
     same_roots (s ∷ trees) = ap (λ l. s.root ∷ l) (same_roots trees)
 
 pub forest_attached : ForestAttached
-forest_attached p nodes before after t e rest unmatched r even state parent tree matched links =
-    forest_with p nodes before after t (e ∷ t.branches) (e.matched ∷ rest) rest unmatched r state
+forest_attached p nodes before after t e rest unmatched waiting r even state parent tree matched links =
+    forest_with p nodes before after t (e ∷ t.branches) (e.matched ∷ rest) rest unmatched waiting r state
     (search_attached p nodes t.branches e (forest_paired (before ++ after) ++ rest) unmatched t.root r even
     (search_permuted p nodes t.branches (forest_paired (before ++ after) ++ e.matched ∷ rest)
     (e.matched ∷ (forest_paired (before ++ after) ++ rest)) unmatched t.root r
     (IsPermutation-middle (forest_paired (before ++ after)) e.matched rest)
-    (forest_tree p nodes before after t (e.matched ∷ rest) unmatched r state))
+    (forest_tree p nodes before after t (e.matched ∷ rest) unmatched waiting r state))
     parent tree matched links)
     (λ n within. apart n (is_in-cases e.minus (e.plus ∷ tree_names t.root t.branches) n within))
   where
@@ -309,7 +368,7 @@ forest_attached p nodes before after t e rest unmatched r even state parent tree
         All-head
         (λ l. ((name : ℕ) → cover_of nodes l.from ≡ Some name → is_in (forest_names (before ++ t ∷ after)) name ≡ false)
         × ((name : ℕ) → cover_of nodes l.to ≡ Some name → is_in (forest_names (before ++ t ∷ after)) name ≡ false)) e.matched rest
-        (rest_beside p nodes (before ++ t ∷ after) (e.matched ∷ rest) unmatched r state)
+        (rest_beside p nodes (before ++ t ∷ after) (e.matched ∷ rest) unmatched waiting r state)
 
     others : (n : ℕ) → is_in (forest_names (before ++ t ∷ after)) n ≡ false → is_in (forest_names (before ++ after)) n ≡ false
     others n out =
@@ -334,4 +393,4 @@ forest_attached p nodes before after t e rest unmatched r even state parent tree
         later (inl same) =
             ap (is_in (forest_names (before ++ after))) (sym same)
             ∙ new e.plus e.minus (connects_sym nodes e.matched e.minus e.plus matched)
-        later (inr here) = tree_apart p nodes before after t (e.matched ∷ rest) unmatched r state n here
+        later (inr here) = tree_apart p nodes before after t (e.matched ∷ rest) unmatched waiting r state n here

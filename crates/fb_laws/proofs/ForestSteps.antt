@@ -1,4 +1,4 @@
--- Several trees begin at all unmatched nodes, and step together.
+-- Several trees begin at unmatched nodes, and step together.
 use Rattle.std.proofs.Common.{ℕ, ◌≡◌, ◌⊎◌, inl, inr, Bool, true, false, List, [], ◌∷◌, ◌++◌, map, All, Some, get_or, refl, sym, ap, ◌∙◌, subst}
 use Rattle.std.proofs.lemmas.Bool.{both_ways, false≢true, false_from_ne_true, or_cases}
 use Rattle.std.proofs.lemmas.List.Elements.{All-nil, All-head, All-tail, All-append, All-map}
@@ -24,7 +24,7 @@ use Rattle.fb_laws.specs.Forests.{ForestBegins, ForestLevel, ForestRoles, Forest
 use Rattle.fb_laws.proofs.ForestStates.{IsHeld, forest_tree, held_by, rest_beside}
 use Rattle.fb_laws.proofs.HalvesKept.{matching_stepped}
 use Rattle.fb_laws.proofs.MergedParts.{distinct_across}
-use Rattle.fb_laws.proofs.PotentialParities.{tree_parity_stepped}
+use Rattle.fb_laws.proofs.PotentialParities.{other_parity_stepped, tree_parity_stepped}
 use Rattle.fb_laws.proofs.SearchStates.{IsLevelBy, levels_in, named_set, tree_moved}
 use Rattle.fb_laws.proofs.SearchTrees.{exclusive_names, minus_in_tree, plus_in_tree, tree_in_roles}
 use Rattle.fb_laws.proofs.TreePaths.{distinct_right}
@@ -47,19 +47,26 @@ bare_grown [] = refl
 bare_grown (n ∷ ns) = bare_grown ns
 
 pub forest_begins : ForestBegins
-forest_begins p nodes links unmatched work distinct outer = record {
-  matching = subst (λ l. IsMatching p nodes (l ++ links) unmatched) (sym (bare_paired unmatched)) work.matching;
-  outer = All-map (λ t. IsOuterNode nodes t.root) bare_tree unmatched outer;
-  roots = λ n. ap (λ l. is_in l n) (sym (bare_roots unmatched));
-  names = subst AreDistinct (sym (bare_names unmatched)) distinct;
-  joined = All-map (λ t. IsTree nodes t.root t.branches) bare_tree unmatched (λ i d less. tt);
+forest_begins p nodes links unmatched roots waiting work distinct are outer = record {
+  matching = subst (λ l. IsMatching p nodes (l ++ links) unmatched) (sym (bare_paired roots)) work.matching;
+  outer = All-map (λ t. IsOuterNode nodes t.root) bare_tree roots outer;
+  roots = λ n. are n ∙ ap (λ l. is_in (l ++ waiting) n) (sym (bare_roots roots));
+  apart = λ n waits.
+      false_from_ne_true (is_in (forest_names (map bare_tree roots)) n)
+      (λ root.
+      both_ways (is_in waiting n)
+      (distinct_across roots waiting n distinct (ap (λ l. is_in l n) (sym (bare_names roots)) ∙ root)) waits);
+  even = λ d name leaf cover waits. work.even d name leaf cover (are name ∙ is_in-right roots waiting name waits);
+  names = subst AreDistinct (sym (bare_names roots)) (distinct_left roots waiting distinct);
+  joined = All-map (λ t. IsTree nodes t.root t.branches) bare_tree roots (λ i d less. tt);
   grown = record {
-    tight = subst (All (IsTightLink p (all_cuts nodes))) (sym (bare_grown unmatched)) (All-nil (IsTightLink p (all_cuts nodes)));
-    own = subst (All (IsLinkOf p)) (sym (bare_grown unmatched)) (All-nil (IsLinkOf p));
-    at_defects = subst (EndAtDefects p (leaves nodes)) (sym (bare_grown unmatched)) (All-nil (EndsAtDefects p (leaves nodes)));
+    tight = subst (All (IsTightLink p (all_cuts nodes))) (sym (bare_grown roots)) (All-nil (IsTightLink p (all_cuts nodes)));
+    own = subst (All (IsLinkOf p)) (sym (bare_grown roots)) (All-nil (IsLinkOf p));
+    at_defects = subst (EndAtDefects p (leaves nodes)) (sym (bare_grown roots)) (All-nil (EndsAtDefects p (leaves nodes)));
   };
   parity = λ d name leaf cover among.
-      work.even d name leaf cover (ap (λ l. is_in l name) (sym (bare_names unmatched)) ∙ among);
+      work.even d name leaf cover
+      (are name ∙ is_in-left roots waiting name (ap (λ l. is_in l name) (sym (bare_names roots)) ∙ among));
 }
 
 -- what is in the one list of a tree is in the other one
@@ -156,17 +163,17 @@ each_level roles nodes apart are (t ∷ ts) joined plus minus =
       All-append (IsLevelBy roles nodes) (paired_links t.branches) (forest_paired ts) here.1 there.1,
     )
 
-module _ (p : Problem) (nodes : List Node) (trees : List (TreeOf Link)) (rest : List Link) (unmatched : List ℕ) (r : ℕ)
-    (state : IsForest p nodes trees rest unmatched r) where
+module _ (p : Problem) (nodes : List Node) (trees : List (TreeOf Link)) (rest : List Link) (unmatched waiting : List ℕ) (r : ℕ)
+    (state : IsForest p nodes trees rest unmatched waiting r) where
   -- a name in a tree is that of an outer node
   pub name_set : (name : ℕ) → is_in (forest_names trees) name ≡ true → IsSetOf nodes name (top_at nodes name)
   name_set name among = by (held_by trees name among)
     where
       by : IsHeld trees name → IsSetOf nodes name (top_at nodes name)
       by held =
-          let moved : IsForest p nodes (held.before ++ held.tree ∷ held.after) rest unmatched r =
-          subst (λ ts. IsForest p nodes ts rest unmatched r) held.there state in
-          let found = forest_tree p nodes held.before held.after held.tree rest unmatched r moved in
+          let moved : IsForest p nodes (held.before ++ held.tree ∷ held.after) rest unmatched waiting r =
+          subst (λ ts. IsForest p nodes ts rest unmatched waiting r) held.there state in
+          let found = forest_tree p nodes held.before held.after held.tree rest unmatched waiting r moved in
           named_set p nodes held.tree.branches (forest_paired (held.before ++ held.after) ++ rest) unmatched held.tree.root r found name
           held.has
 
@@ -196,7 +203,7 @@ module _ (p : Problem) (nodes : List Node) (trees : List (TreeOf Link)) (rest : 
 
   rest_level : All (IsLevelBy (forest_roles trees) nodes) rest
   rest_level i d less =
-      let away = rest_beside p nodes trees rest unmatched r state i d less in
+      let away = rest_beside p nodes trees rest unmatched waiting r state i d less in
       level_outside (forest_roles trees) nodes (pair (get_or rest i d).from (get_or rest i d).to) state.matching.dual.apart
       state.matching.dual.names are_forest_roles
       (not_over (is_in (forest_plus trees)) (get_or rest i d).from (plus_in_forest trees) away.0)
@@ -211,15 +218,15 @@ pub forest_roles_are : ForestRoles
 forest_roles_are = are_forest_roles
 
 pub forest_level : ForestLevel
-forest_level p nodes trees rest unmatched r state =
+forest_level p nodes trees rest unmatched waiting r state =
     All-append (IsLevelBy (forest_roles trees) nodes) (forest_grown trees) (forest_paired trees ++ rest)
-    (tree_level p nodes trees rest unmatched r state).0 (matched_level p nodes trees rest unmatched r state)
+    (tree_level p nodes trees rest unmatched waiting r state).0 (matched_level p nodes trees rest unmatched waiting r state)
 
 pub forest_stepped : ForestStepped
-forest_stepped p nodes trees rest unmatched r k low dual state = record {
+forest_stepped p nodes trees rest unmatched waiting r k low dual state = record {
   matching =
       matching_stepped p roles nodes (forest_paired trees ++ rest) unmatched k are low dual
-      (matched_level p nodes trees rest unmatched r state) state.matching;
+      (matched_level p nodes trees rest unmatched waiting r state) state.matching;
   outer = λ i d less.
       let is = state.outer i d less in (
         is.0,
@@ -227,6 +234,16 @@ forest_stepped p nodes trees rest unmatched r k low dual state = record {
         cover_stepped roles nodes k is.0 ∙ is.2,
       );
   roots = state.roots;
+  apart = state.apart;
+  even =
+      other_parity_stepped roles (is_in waiting) nodes k 0 state.matching.dual.apart are low
+      (λ n waits. (
+        false_from_ne_true (is_in (forest_plus trees) n)
+            (λ plus. both_ways (is_in (forest_names trees) n) (state.apart n waits) (plus_in_forest trees n plus)),
+        false_from_ne_true (is_in (forest_minus trees) n)
+            (λ minus. both_ways (is_in (forest_names trees) n) (state.apart n waits) (minus_in_forest trees n minus)),
+      ))
+      state.even;
   names = state.names;
   joined = λ i d less.
       tree_moved nodes (stepped_nodes roles k nodes) (get_or trees i d).root (get_or trees i d).branches
@@ -244,7 +261,7 @@ forest_stepped p nodes trees rest unmatched r k low dual state = record {
       walk = (state.grown.tight i d less).walk;
       tight =
           tight_stepped p roles nodes k (get_or (forest_grown trees) i d) are.exclusive low
-          ((tree_level p nodes trees rest unmatched r state).0 i d less) (state.grown.tight i d less).tight;
+          ((tree_level p nodes trees rest unmatched waiting r state).0 i d less) (state.grown.tight i d less).tight;
     };
     own = state.grown.own;
     at_defects = subst (λ l. EndAtDefects p l (forest_grown trees)) (sym (leaves_stepped roles nodes k)) state.grown.at_defects;
@@ -258,4 +275,4 @@ forest_stepped p nodes trees rest unmatched r k low dual state = record {
     roles = forest_roles trees
 
     are : AreRoles (forest_roles trees) nodes
-    are = are_forest_roles p nodes trees rest unmatched r state
+    are = are_forest_roles p nodes trees rest unmatched waiting r state

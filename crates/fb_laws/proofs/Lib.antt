@@ -7,12 +7,14 @@ pub mod ExchangedDefects
 pub mod FallingRanks
 pub mod ForestBlossoms
 pub mod ForestEnds
+pub mod ForestMatched
 pub mod ForestMeasures
 pub mod ForestMoves
 pub mod ForestOpenings
 pub mod ForestParts
 pub mod ForestStates
 pub mod ForestSteps
+pub mod ForestWakes
 pub mod FormedNodes
 pub mod FreedNames
 pub mod FusedParts
@@ -75,3 +77,4 @@ pub mod TreeCycles
 pub mod TreePaths
 pub mod TreesBeside
 pub mod UnmatchedNames
+pub mod WaitingNodes

@@ -43,40 +43,40 @@ ForestUncoveredLess = (p : Problem) (s : ForestState) (name : ℕ) (free freed :
 
 -- A branch attached.
 abbrev pub ForestAttachedLess : Type 0
-ForestAttachedLess = (p : Problem) (before after : List AnyTree) (s : SearchState) (e : Entry) (rest : List Link)
-    (free freed : Bool) → AreEven p → MayAttach p s e rest → IsForestState p (among_trees before after s)
-    → IsLower (forest_to_do p (among_trees before after (attached_state e rest s)) freed)
-    (forest_to_do p (among_trees before after s) free)
+ForestAttachedLess = (p : Problem) (before after : List AnyTree) (waiting : List ℕ) (s : SearchState) (e : Entry) (rest : List Link)
+    (free freed : Bool) → AreEven p → MayAttach p s e rest → IsForestState p (among_trees before after waiting s)
+    → IsLower (forest_to_do p (among_trees before after waiting (attached_state e rest s)) freed)
+    (forest_to_do p (among_trees before after waiting s) free)
 
 -- A cycle joined.
 abbrev pub ForestClosedLess : Type 0
-ForestClosedLess = (p : Problem) (before after : List AnyTree) (s : SearchState) (name a b : ℕ) (closing : Link)
+ForestClosedLess = (p : Problem) (before after : List AnyTree) (waiting : List ℕ) (s : SearchState) (name a b : ℕ) (closing : Link)
     (shared up down : List Entry) (free freed : Bool) → MayClose p s name a b closing
-    → ArePaths s.tree a b shared up down → IsForestState p (among_trees before after s)
+    → ArePaths s.tree a b shared up down → IsForestState p (among_trees before after waiting s)
     → IsLower
     (forest_to_do p
-    (among_trees before after
+    (among_trees before after waiting
     (joined_state name (last_plus s.root shared ∷ cycle_nodes up down) (cycle_links up closing down) s)) freed)
-    (forest_to_do p (among_trees before after s) free)
+    (forest_to_do p (among_trees before after waiting s) free)
 
 -- A minus node joined with its parent and its child.
 abbrev pub ForestRoundedLess : Type 0
-ForestRoundedLess = (p : Problem) (before after : List AnyTree) (s : SearchState) (name : ℕ) (newer older : List Entry)
+ForestRoundedLess = (p : Problem) (before after : List AnyTree) (waiting : List ℕ) (s : SearchState) (name : ℕ) (newer older : List Entry)
     (e : Entry) (closing : Link) (free freed : Bool) → s.tree ≡ newer ++ e ∷ older
     → Connects s.nodes closing e.plus e.parent → AreMatchedLinks p s.nodes (closing ∷ [])
-    → is_live s.nodes name ≡ false → IsForestState p (among_trees before after s)
+    → is_live s.nodes name ≡ false → IsForestState p (among_trees before after waiting s)
     → IsLower
     (forest_to_do p
-    (among_trees before after
+    (among_trees before after waiting
     (joined_state name (e.parent ∷ e.minus ∷ e.plus ∷ []) (e.tree ∷ e.matched ∷ closing ∷ []) s)) freed)
-    (forest_to_do p (among_trees before after s) free)
+    (forest_to_do p (among_trees before after waiting s) free)
 
 -- A minus blossom opened.
 abbrev pub ForestOpenedLess : Type 0
-ForestOpenedLess = (p : Problem) (before after : List AnyTree) (s : SearchState) (newer older : List Entry) (e : Entry)
+ForestOpenedLess = (p : Problem) (before after : List AnyTree) (waiting : List ℕ) (s : SearchState) (newer older : List Entry) (e : Entry)
     (from : ℕ) (way : List Pass) (couples : List Couple) (free freed : Bool) → s.tree ≡ newer ++ e ∷ older
     → MaySplit s.nodes e.minus
     → IsOpenedCycle p s.nodes (split_nodes e.minus s.nodes) e from way couples s.unmatched
-    → IsForestState p (among_trees before after s)
-    → IsLower (forest_to_do p (among_trees before after (opened_state newer older e from way couples s)) freed)
-    (forest_to_do p (among_trees before after s) free)
+    → IsForestState p (among_trees before after waiting s)
+    → IsLower (forest_to_do p (among_trees before after waiting (opened_state newer older e from way couples s)) freed)
+    (forest_to_do p (among_trees before after waiting s) free)

@@ -9,7 +9,7 @@ use Rattle.fb_graph.specs.Dual.{Node}
 use Rattle.fb_graph.specs.Links.{AreEven}
 use Rattle.fb_graph.specs.Moves.{MayAbsorb, MayUncover, absorbed_nodes, uncovered_nodes}
 use Rattle.fb_graph.specs.Steps.{MayStep, stepped_nodes}
-use Rattle.fb_laws.specs.Forests.{AnyTree, forest_roles, met_links}
+use Rattle.fb_laws.specs.Forests.{AnyTree, bare_tree, forest_plus, forest_roles, met_links}
 use Rattle.fb_laws.specs.ForestStates.{ForestState, IsForestState, among_trees, with_trees}
 use Rattle.fb_laws.specs.PartStates.{SearchState}
 use Rattle.fb_laws.specs.Searches.{LeavesNode}
@@ -40,9 +40,9 @@ ForestStateUncovered = (p : Problem) (s : ForestState) (name : ℕ) → MayUncov
 
 -- A branch may be attached to one of the trees, as to that of a search.
 abbrev pub ForestStateAttached : Type 0
-ForestStateAttached = (p : Problem) (before after : List AnyTree) (s : SearchState) (e : Entry) (rest : List Link)
-    → AreEven p → MayAttach p s e rest → IsForestState p (among_trees before after s)
-    → IsForestState p (among_trees before after (attached_state e rest s))
+ForestStateAttached = (p : Problem) (before after : List AnyTree) (waiting : List ℕ) (s : SearchState) (e : Entry) (rest : List Link)
+    → AreEven p → MayAttach p s e rest → IsForestState p (among_trees before after waiting s)
+    → IsForestState p (among_trees before after waiting (attached_state e rest s))
 
 -- the state after trees are dissolved, with fewer unmatched nodes
 pub record IsFewer (p : Problem) (s after : ForestState) : Type 0 where
@@ -50,24 +50,33 @@ pub record IsFewer (p : Problem) (s after : ForestState) : Type 0 where
   pub fewer : length after.unmatched < length s.unmatched
 
 -- one tree dissolved, the others as they were
-abbrev pub ended_forest : List AnyTree → List AnyTree → ℕ → Link → List Link → SearchState → ForestState
-ended_forest before after name out rest s =
-    with_trees (before ++ after) s.parity (ended_state name out rest (names_without s.root s.unmatched) s)
+abbrev pub ended_forest : List AnyTree → List AnyTree → List ℕ → ℕ → Link → List Link → SearchState → ForestState
+ended_forest before after waiting name out rest s =
+    with_trees (before ++ after) waiting s.parity (ended_state name out rest (names_without s.root s.unmatched) s)
 
 -- A tree ends at the boundary,
 abbrev pub ForestStateEnded : Type 0
-ForestStateEnded = (p : Problem) (before after : List AnyTree) (s : SearchState) (name : ℕ) (out : Link) (v : ℕ)
+ForestStateEnded = (p : Problem) (before after : List AnyTree) (waiting : List ℕ) (s : SearchState) (name : ℕ) (out : Link) (v : ℕ)
     → LeavesTree p s name out → LeavesNode s.nodes out name v → p.is_real v ≡ false
-    → IsForestState p (among_trees before after s)
-    → IsFewer p (among_trees before after s) (ended_forest before after name out s.rest s)
+    → IsForestState p (among_trees before after waiting s)
+    → IsFewer p (among_trees before after waiting s) (ended_forest before after waiting name out s.rest s)
 
 -- or at a node that was matched to the boundary,
 abbrev pub ForestStateReleased : Type 0
-ForestStateReleased = (p : Problem) (before after : List AnyTree) (s : SearchState) (name other : ℕ) (out old : Link)
+ForestStateReleased = (p : Problem) (before after : List AnyTree) (waiting : List ℕ) (s : SearchState) (name other : ℕ) (out old : Link)
     (rest : List Link) (b : ℕ) → LeavesTree p s name out → Connects s.nodes out name other
     → IsPermutation s.rest (old ∷ rest) → LeavesNode s.nodes old other b → p.is_real b ≡ false
-    → IsForestState p (among_trees before after s)
-    → IsFewer p (among_trees before after s) (ended_forest before after name out rest s)
+    → IsForestState p (among_trees before after waiting s)
+    → IsFewer p (among_trees before after waiting s) (ended_forest before after waiting name out rest s)
+
+-- or at a node that waits, with which it is matched,
+abbrev pub ForestStateMatched : Type 0
+ForestStateMatched = (p : Problem) (before after : List AnyTree) (waiting others : List ℕ) (s : SearchState) (name other : ℕ) (out : Link)
+    → AreEven p → LeavesTree p s name out → Connects s.nodes out name other → IsPermutation waiting (other ∷ others)
+    → IsForestState p (among_trees before after waiting s)
+    → IsFewer p (among_trees before after waiting s)
+    (with_trees (before ++ after) others s.parity
+    (ended_state name out s.rest (names_without other (names_without s.root s.unmatched)) s))
 
 -- two trees dissolved
 abbrev pub met_forest : AnyTree → ℕ → Link → AnyTree → ℕ → List AnyTree → ForestState → ForestState
@@ -83,3 +92,10 @@ ForestStateMet = (p : Problem) (s : ForestState) (t u : AnyTree) (others : List 
     → IsPermutation s.trees (t ∷ u ∷ others) → is_in (plus_names t.root t.branches) a ≡ true
     → is_in (plus_names u.root u.branches) b ≡ true → AreMatchedLinks p s.nodes (out ∷ []) → Connects s.nodes out a b
     → IsForestState p s → IsFewer p s (met_forest t a out u b others s)
+
+-- A tree begins at a node that waits, once one of the others meets it.
+abbrev pub ForestStateWoken : Type 0
+ForestStateWoken = (p : Problem) (s : ForestState) (others : List ℕ) (a name : ℕ) (out : Link) → AreEven p
+    → IsPermutation s.waiting (name ∷ others) → is_in (forest_plus s.trees) a ≡ true → AreMatchedLinks p s.nodes (out ∷ [])
+    → Connects s.nodes out a name → IsForestState p s
+    → IsForestState p (record s { trees = s.trees ++ bare_tree name ∷ []; waiting = others })

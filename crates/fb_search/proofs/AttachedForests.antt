@@ -1,5 +1,5 @@
 -- Trees one of which has taken in a node that it has met and this node's mate keep what they kept, and have less to do.
-use Rattle.std.proofs.Common.{ℕ, ◌≡◌, ◌==◌, ◌<◌, ◌||◌, ◌⊎◌, inl, inr, Bool, true, false, All, List, [], ◌∷◌, ◌++◌, map, set, length, Option, Some, unwrap_or, refl, sym, ap, subst, ◌∙◌, le_refl, if◌then◌else◌}
+use Rattle.std.proofs.Common.{ℕ, ◌≡◌, ◌==◌, ◌*◌, ◌<◌, ◌||◌, ◌⊎◌, inl, inr, Bool, true, false, All, List, [], ◌∷◌, ◌++◌, map, filter, not, set, length, Option, Some, unwrap_or, refl, sym, ap, subst, ◌∙◌, arith, le_refl, if◌then◌else◌}
 use Rattle.std.specs.List.Sorted.{IsPermutation}
 use Rattle.std.specs.Option.{is_some}
 use Rattle.std.proofs.lemmas.Bool.{ne_eqb, false≢true}
@@ -13,7 +13,7 @@ use Rattle.fb_graph.proofs.Floods.{is_in-left, is_in-right}
 use Rattle.fb_graph.proofs.Sets.{is_in-cases, is_in-head, is_in-tail}
 use Rattle.fb_graph.proofs.TightLinks.{all_even}
 use Rattle.fb_laws.specs.Forests.{forest_roles}
-use Rattle.fb_laws.specs.ForestStates.{IsForestState, among_trees}
+use Rattle.fb_laws.specs.ForestStates.{ForestState, IsForestState, among_trees}
 use Rattle.fb_laws.specs.LinkNumbers.{tree_links}
 use Rattle.fb_laws.specs.Measures.{IsLower}
 use Rattle.fb_laws.specs.SearchLayers.{left_to_do}
@@ -30,16 +30,18 @@ use Rattle.fb_half.specs.declared.matches.Match.{Match}
 use Rattle.fb_half.specs.Matchings.{IsMatchingOf, MatchingValue, listed_names, match_links}
 use Rattle.fb_half.specs.Parts.{AreLinksOf, problem_in}
 use Rattle.fb_half.specs.Translations.{entry_by, link_by, link_of, ring_links}
-use Rattle.fb_obstacles.specs.Obstacles.{grows, shrinks}
-use Rattle.fb_obstacles.specs.Watched.{Watched}
-use Rattle.fb_obstacles.specs.InternalWatching.{Watches}
+use Rattle.fb_obstacles.specs.Obstacles.{IsWatched, grows, shrinks, slack_at}
+use Rattle.fb_obstacles.specs.Watched.{AreBounded, Watched}
+use Rattle.fb_obstacles.specs.InternalWatching.{EntersNode, Watches}
+use Rattle.fb_regions.specs.Moves.{node_named}
 use Rattle.fb_regions.specs.declared.roles.Role.TheVariants.{Plus, Minus, Out}
 use Rattle.fb_trees.specs.Branches.{Grown}
 use Rattle.fb_trees.specs.Forests.{all_minus, all_plus, all_roles, tree_at, trees_in}
 use Rattle.fb_trees.specs.Rooted.{attached_grown}
+use Rattle.fb_trees.proofs.ForestsCounted.{as_many}
 use Rattle.fb_trees.proofs.Mapped.{plus_moved}
-use Rattle.fb_search.specs.declared.attaching.Met.{Met}
-use Rattle.fb_search.specs.InternalGrowing.{GrowingValue, IsGrowing, IsGrowingBeside, all_along, forest_state_at, grown_ids, roles_among, tree_by}
+use Rattle.fb_search.specs.declared.growing_meets.Met.{Met}
+use Rattle.fb_search.specs.InternalGrowing.{GrowingValue, IsGrowing, IsGrowingBeside, all_along, forest_state_at, grown_ids, roles_among, tree_by, waiting_in}
 use Rattle.fb_search.specs.InternalGrowth.{GrowsOn}
 use Rattle.fb_search.specs.InternalMeetings.{IsCouple}
 use Rattle.fb_search.specs.InternalTreeMeetings.{HasMetTree, rematched_growing}
@@ -47,12 +49,14 @@ use Rattle.fb_search.proofs.AttachedMatches.{matching_attached}
 use Rattle.fb_search.proofs.AttachedRoles.{TakesPlus, bounded_taking, watch_taking}
 use Rattle.fb_search.proofs.AttachedSearches.{branch_met}
 use Rattle.fb_search.proofs.BegunForests.{plus_named}
+use Rattle.fb_search.proofs.GrowingMinus.{minus_entered, minus_taken}
 use Rattle.fb_search.proofs.GrowingRoles.{roles_numbers}
 use Rattle.fb_search.proofs.Linked.{links_reordered}
 use Rattle.fb_search.proofs.MetMatches.{couple_names}
 use Rattle.fb_search.proofs.RelinkedForests.{growing_linked, relinked_growing}
 use Rattle.fb_search.proofs.SplitForests.{IsAmongTrees, along_append, among_others, beside_by, ids_append, minus_append, plus_append, state_among, tree_state}
 use Rattle.fb_search.proofs.TreeMatches.{couple_joins, names_without}
+use Rattle.fb_search.proofs.WaitingNames.{roots_kept}
 
 -- a list in the middle of two others gets new heads
 moved_out : (before mid after : List ℕ) (x : ℕ) → IsPermutation (before ++ ((x ∷ mid) ++ after)) (x ∷ (before ++ (mid ++ after)))
@@ -158,6 +162,17 @@ module _ (f : List (Option Grown)) (t : ℕ) (g : Grown) (at : tree_at f t ≡ S
       still plus minus none some =
           ap (λ b. shrinks (if b then Plus else (if minus then Minus else Out))) none ∙ ap (λ b. shrinks (if b then Minus else Out)) some
 
+  -- and the only node that is minus from now on
+  minus_more : (n : ℕ) → (roles_among now).is_minus n ≡ true → (e.minus ≡ n) ⊎ ((roles_among f).is_minus n ≡ true)
+  minus_more =
+      minus_taken f now e.minus
+      (λ n none. later (e.plus == n) (is_in (all_plus (trees_in f)) n) (sym (plus_is n) ∙ none))
+      (λ n there. is_in-cases e.minus (all_minus (trees_in f)) n (sym (minus_is n) ∙ there))
+    where
+      later : (a b : Bool) → (a || b) ≡ false → b ≡ false
+      later true b none = absurd (false≢true (sym none))
+      later false b none = none
+
 module _ (w : GrowingValue) (met : Met) (now : GrowingValue) (h : HasMetTree w met now) (mate : ℕ) (couple : IsCouple met.taken met.other mate)
     (t : ℕ) (g : Grown) (at : tree_at w.forest t ≡ Some g) (parent : is_in (plus_names g.root g.branches) met.plus ≡ true) where
   abbrev made_growing : GrowingValue
@@ -243,31 +258,46 @@ module _ (w : GrowingValue) (met : Met) (now : GrowingValue) (h : HasMetTree w m
 
   -- the trees as the laws see them
   state_was : forest_state_at made_growing made.state.0
-      ≡ among_trees (beside_by made_growing split_at.before) (beside_by made_growing split_at.after) (tree_state made_growing g made.state.0)
+      ≡ among_trees (beside_by made_growing split_at.before) (beside_by made_growing split_at.after) (waiting_in w)
+      (tree_state made_growing g made.state.0)
   state_was = state_among made_growing made.state.0 split_at.before split_at.after g split_at.there
 
   abbrev attached_growing : Watched → GrowingValue
   attached_growing new = with_grown t g e new (rematched_growing now.part.links now.part.matching.matches w)
 
-  state_now : forest_state_at (attached_growing w.watched) made.state.0
-      ≡ among_trees (beside_by made_growing split_at.before) (beside_by made_growing split_at.after)
-      (attached_state (entry_by now.part.links e) rest (tree_state made_growing g made.state.0))
-  state_now = state_among (attached_growing w.watched) made.state.0 split_at.before split_at.after (attached_grown g e) (split_at.put (attached_grown g e))
+  -- the same nodes wait
+  same_waiting : waiting_in (attached_growing w.watched) ≡ waiting_in w
+  same_waiting =
+      ap (λ roots. filter (λ n. not (is_in roots n)) w.part.matching.unmatched) (roots_kept w.forest t g at (attached_grown g e) refl)
 
-  among_made : IsForestState p (among_trees (beside_by made_growing split_at.before) (beside_by made_growing split_at.after) (tree_state made_growing g made.state.0))
+  abbrev attached_among : List ℕ → ForestState
+  attached_among waiting =
+      among_trees (beside_by made_growing split_at.before) (beside_by made_growing split_at.after) waiting
+      (attached_state (entry_by now.part.links e) rest (tree_state made_growing g made.state.0))
+
+  state_now : forest_state_at (attached_growing w.watched) made.state.0 ≡ attached_among (waiting_in w)
+  state_now =
+      state_among (attached_growing w.watched) made.state.0 split_at.before split_at.after (attached_grown g e)
+      (split_at.put (attached_grown g e))
+      ∙ ap attached_among same_waiting
+
+  among_made : IsForestState p
+      (among_trees (beside_by made_growing split_at.before) (beside_by made_growing split_at.after) (waiting_in w)
+      (tree_state made_growing g made.state.0))
   among_made = subst (IsForestState p) state_was made.state.1
 
-  module _ (limits : IsWithinLimits p) (new : Watched) where
-    rematched_keeps : All (λ j. j < new.edge_count) new.edges → Watches p (top_at w.part.nodes mate) w.watched new
-        → IsGrowing (attached_growing new)
-    rematched_keeps within watched = record {
+  module _ (limits : IsWithinLimits p) (between new : Watched) where
+    rematched_keeps : All (λ j. j < new.edge_count) new.edges
+        → EntersNode met.other (2 * (node_named w.part.nodes met.other).top.value) w.watched between
+        → Watches p (top_at w.part.nodes mate) between new → IsGrowing (attached_growing new)
+    rematched_keeps within enters watched = record {
       job = h.was.job;
       slot = h.was.slot;
       node = h.was.node;
       state = (
         made.state.0,
         subst (IsForestState p) (sym state_now)
-            (forest_state_attached p (beside_by made_growing split_at.before) (beside_by made_growing split_at.after)
+            (forest_state_attached p (beside_by made_growing split_at.before) (beside_by made_growing split_at.after) (waiting_in w)
             (tree_state made_growing g made.state.0) (entry_by now.part.links e) rest (all_even p limits) may among_made),
       );
       agreed = h.was.agreed;
@@ -280,20 +310,34 @@ module _ (w : GrowingValue) (met : Met) (now : GrowingValue) (h : HasMetTree w m
           (all_along (trees_in w.forest)) h.matches
           (names_without p w.part.nodes now.part.links w.part.matching (all_along (trees_in w.forest)) made.matching met.taken now.part.matching.matches h.matches)
           refl (couple_names met.taken met.other mate couple) made.matching);
-      room = watched.room ∙ h.was.room;
+      room = room;
       watch =
           watch_taking p (roles_among w.forest) (roles_among now_trees) mate (takes_plus w.forest t g at e) w.part.nodes limits
-          h.was.state.1.nest.dual.names w.watched new
-          (subst (λ n. All (λ j. j < n) new.edges) (watched.room ∙ h.was.room) within) watched h.was.watch;
+          h.was.state.1.nest.dual.names between new (subst (λ n. All (λ j. j < n) new.edges) room within) watched watch;
       bounds =
           bounded_taking p (roles_among w.forest) (roles_among now_trees) mate (takes_plus w.forest t g at e) w.part.nodes limits
-          h.was.state.1.nest.dual.names w.watched new
-          (subst (λ n. All (λ j. j < n) new.edges) (watched.room ∙ h.was.room) within) watched h.was.watch h.was.bounds;
+          h.was.state.1.nest.dual.names between new (subst (λ n. All (λ j. j < n) new.edges) room within) watched watch
+          (subst (AreBounded (slack_at p (roles_among w.forest) w.part.nodes)) (sym enters.same) h.was.bounds);
+      minus =
+          minus_entered (roles_among w.forest) (roles_among now_trees) met.other w.part.nodes w.watched between new
+          (minus_more w.forest t g at e) h.was.state.1.nest.dual.names enters watched.minus h.was.minus;
     }
+      where
+        room : new.edge_count ≡ length p.edges
+        room = watched.room ∙ (ap (λ s. s.edge_count) enters.same ∙ h.was.room)
+
+        watch : IsWatched p (roles_among w.forest) w.part.nodes between.edges
+        watch = subst (IsWatched p (roles_among w.forest) w.part.nodes) (sym (ap (λ s. s.edges) enters.same)) h.was.watch
 
     rematched_grows : GrowsOn w (attached_growing new)
     rematched_grows = record {
-      part = record { job = refl; slot = refl; node = refl };
+      grown = record {
+        part = record { job = refl; slot = refl; node = refl };
+        waits = λ n waits. ap (λ ns. is_in ns n) (sym same_waiting) ∙ waits;
+        kept = λ n waits. refl;
+        least = let count = as_many w.forest t g (attached_grown g e) at in omega (arith, count);
+        most = let count = as_many w.forest t g (attached_grown g e) at in omega (arith, count);
+      };
       less = inr (
         le_refl (length w.part.matching.unmatched),
         subst (λ roles. IsLower (left_to_do p w.part.nodes roles true) (left_to_do p w.part.nodes (all_roles (trees_in w.forest)) false))
@@ -308,24 +352,25 @@ module _ (w : GrowingValue) (met : Met) (now : GrowingValue) (h : HasMetTree w m
             (λ s.
             IsLower
             (left_to_do p w.part.nodes
-            (forest_roles (among_trees (beside_by made_growing split_at.before) (beside_by made_growing split_at.after)
-            (attached_state (entry_by now.part.links e) rest (tree_state made_growing g made.state.0))).trees) true)
+            (forest_roles (attached_among (waiting_in w)).trees) true)
             (left_to_do p w.part.nodes (forest_roles s.trees) false))
             (sym state_was)
-            (forest_attached_less p (beside_by made_growing split_at.before) (beside_by made_growing split_at.after)
+            (forest_attached_less p (beside_by made_growing split_at.before) (beside_by made_growing split_at.after) (waiting_in w)
             (tree_state made_growing g made.state.0) (entry_by now.part.links e) rest false true (all_even p limits) may among_made)))),
       );
     }
 
   -- The same of the trees that have met the node.
-  pub attached_keeps : IsWithinLimits (problem_in now.part) → (new : Watched) → All (λ j. j < new.edge_count) new.edges
-      → Watches (problem_in now.part) (top_at now.part.nodes mate) now.watched new → IsGrowing (with_grown t g e new now)
-  attached_keeps limits new within watched =
+  pub attached_keeps : IsWithinLimits (problem_in now.part) → (between new : Watched) → All (λ j. j < new.edge_count) new.edges
+      → EntersNode met.other (2 * (node_named now.part.nodes met.other).top.value) now.watched between
+      → Watches (problem_in now.part) (top_at now.part.nodes mate) between new → IsGrowing (with_grown t g e new now)
+  attached_keeps limits between new within enters watched =
       subst (λ s. IsGrowing (with_grown t g e new s)) (sym h.is)
-      (rematched_keeps (subst (λ s. IsWithinLimits (problem_in s.part)) h.is limits) new within
-      (subst (λ s. Watches (problem_in s.part) (top_at s.part.nodes mate) s.watched new) h.is watched))
+      (rematched_keeps (subst (λ s. IsWithinLimits (problem_in s.part)) h.is limits) between new within
+      (subst (λ s. EntersNode met.other (2 * (node_named s.part.nodes met.other).top.value) s.watched between) h.is enters)
+      (subst (λ s. Watches (problem_in s.part) (top_at s.part.nodes mate) between new) h.is watched))
 
   pub attached_grows : IsWithinLimits (problem_in now.part) → (new : Watched) → GrowsOn w (with_grown t g e new now)
   attached_grows limits new =
       subst (λ s. GrowsOn w (with_grown t g e new s)) (sym h.is)
-      (rematched_grows (subst (λ s. IsWithinLimits (problem_in s.part)) h.is limits) new)
+      (rematched_grows (subst (λ s. IsWithinLimits (problem_in s.part)) h.is limits) new new)

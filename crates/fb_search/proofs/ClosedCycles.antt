@@ -21,7 +21,7 @@ use Rattle.fb_laws.specs.PartStates.{SearchState}
 use Rattle.fb_laws.specs.SearchBlossoms.{joined_tree, renamed_name}
 use Rattle.fb_laws.specs.Searches.{IsSearch}
 use Rattle.fb_laws.specs.StateBlossoms.{MayClose}
-use Rattle.fb_laws.specs.TreeCycles.{AreLinked, ArePaths, cycle_links, cycle_nodes, last_plus, nodes_along}
+use Rattle.fb_laws.specs.TreeCycles.{AreLinked, ArePaths, cycle_links, cycle_nodes, last_plus}
 use Rattle.fb_laws.specs.Trees.{Connects, Entry, EntryOf, grown_links, paired_links, tree_names}
 use Rattle.fb_laws.specs.Works.{AreMatchedLinks, IsSetOf}
 use Rattle.fb_laws.proofs.OpenedBlossoms.{same_permuted}
@@ -36,16 +36,14 @@ use Rattle.fb_trees.specs.TreeSteps.{IsCycle}
 use Rattle.fb_trees.specs.Rooted.{IsPlus}
 use Rattle.fb_trees.proofs.Mapped.{cycle_links_moved, cycle_moved, last_moved, names_moved, plus_moved}
 use Rattle.fb_half.specs.Matchings.{listed_names}
-use Rattle.fb_half.specs.Parts.{AreAgreed, PartValue, kept_links, problem_in}
+use Rattle.fb_half.specs.Parts.{AreAgreed, PartValue, problem_in}
 use Rattle.fb_half.specs.Translations.{cycles_by, entry_by, link_by}
-use Rattle.fb_search.specs.InternalClosings.{Closes}
-use Rattle.fb_search.specs.InternalSearching.{SearchValue, state_at}
 use Rattle.fb_search.proofs.Agreed.{cycle_odd, cycle_outer, nodes_of}
 use Rattle.fb_search.proofs.Cycles.{cycle_from, paths_of}
 use Rattle.fb_search.proofs.JoinConditions.{nodes_may_join, tree_may_join}
 use Rattle.fb_search.proofs.JoinLinks.{numbers_joined}
 use Rattle.fb_search.proofs.LinkedSteps.{steps_linked}
-use Rattle.fb_graph.proofs.Floods.{is_in-left, is_in-right}
+use Rattle.fb_graph.proofs.Floods.{is_in-right}
 
 -- several nodes may give way to one
 one_for_many : (t : Grown) (gone : List ℕ) (s : CycleStep) → 3 ≤ length gone → replacements.MayJoin t gone s.node
@@ -79,25 +77,6 @@ pub record ClosesTree (part : PartValue) (tree : Grown) (parity a b closing : �
   pub apart : a ≢ b
   pub connects : Connects part.nodes (link_by part.links closing) a b
   pub tight : AreMatchedLinks (problem_in part) part.nodes (link_by part.links closing ∷ [])
-
--- so for the tree of a search
-pub tree_closes : (w : SearchValue) (a b closing : ℕ) (closes : Closes w a b closing)
-    → ClosesTree w.part w.tree closes.search.state.0 a b closing
-tree_closes w a b closing closes = record {
-  rest = (state_at w closes.search.state.0).rest;
-  nest = closes.search.state.1.search.nest;
-  search = closes.search.state.1.search.search;
-  agreed = closes.search.agreed;
-  live = λ id there.
-      closes.search.links.live id ∙ is_in-left (closing ∷ tree_links w.tree.branches) (kept_links w.part) id there;
-  listed = λ n there.
-      (closes.search.matching.live n (is_in-left (listed_names w.part.matching) (nodes_along w.tree.branches) n there)).0;
-  first = closes.first;
-  second = closes.second;
-  apart = closes.apart;
-  connects = closes.connects;
-  tight = closes.tight;
-}
 
 module _ (part : PartValue) (tree : Grown) (parity a b closing : ℕ) (closes : ClosesTree part tree parity a b closing) where
   abbrev s : SearchState

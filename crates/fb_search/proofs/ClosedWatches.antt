@@ -1,7 +1,7 @@
 -- The watch of a search after a cycle of its tree becomes a blossom: the minus nodes of the cycle are plus now.
 use Rattle.std.proofs.Common.{ℕ, ◌≡◌, ◌≢◌, ◌+◌, ◌<◌, ◌⊎◌, inl, inr, not, cond, Bool, true, false, List, [], ◌∷◌, ◌==◌, map, length, take, get_or, All, Some, refl, sym, ap, ◌∙◌, subst, if◌then◌else◌}
 use Rattle.std.specs.List.{list_any}
-use Rattle.std.proofs.lemmas.Bool.{both_ways, cases_Bool, eqb-true, false_from_ne_true, false≢true}
+use Rattle.std.proofs.lemmas.Bool.{both_ways, cases_Bool, eqb-true, false≢true}
 use Rattle.fb_graph.specs.Parity.{is_in}
 use Rattle.fb_graph.specs.Problem.{Problem, edge_at, touches}
 use Rattle.fb_graph.specs.Limits.{DecodingGraph, IsWithinLimits, no_shot}
@@ -13,7 +13,7 @@ use Rattle.fb_graph.proofs.Among.{among_is_in, among_live, any_among, cover_amon
 use Rattle.fb_graph.proofs.Members.{is_in-take_more}
 use Rattle.fb_graph.proofs.Sets.{is_in-cases, is_in-head, is_in-tail}
 use Rattle.fb_regions.specs.declared.roles.Role.{Role}
-use Rattle.fb_regions.specs.declared.roles.Role.TheVariants.{Plus, Minus, Out}
+use Rattle.fb_regions.specs.declared.roles.Role.TheVariants.{Minus}
 use Rattle.fb_laws.specs.SearchBlossoms.{joined_tree, outer_branches, renamed_name, renamed_entry}
 use Rattle.fb_laws.specs.Trees.{EntryOf, minus_names, plus_names, tree_names}
 use Rattle.fb_laws.proofs.SearchTrees.{cover_set}
@@ -25,17 +25,13 @@ use Rattle.fb_obstacles.specs.Obstacles.{IsWatched, grows, roles_by, shrinks, sl
 use Rattle.fb_obstacles.specs.Watched.{AreBounded, Watched}
 use Rattle.fb_obstacles.proofs.ForgottenBounds.{right_twice}
 use Rattle.fb_obstacles.proofs.WatchSteps.{bounded_by}
-use Rattle.fb_trees.specs.Branches.{Grown}
-use Rattle.fb_trees.specs.Replacements as replacements
-use Rattle.fb_trees.specs.Rooted.{role_in}
-use Rattle.fb_search.specs.InternalClosings.{WatchesMinus, WatchesMinusBy}
-use Rattle.fb_search.proofs.AttachedBranches.{plus_role}
+use Rattle.fb_search.specs.InternalClosings.{WatchesMinusBy}
 use Rattle.fb_search.proofs.BegunSearches.{touches_first, touches_second}
 use Rattle.fb_search.proofs.CoversBefore.{cover_before}
 use Rattle.fb_search.proofs.KeptBounds.{IsMilder, slack_away}
 use Rattle.fb_search.proofs.KeptWatches.{IsWatchedAt, together_joined, watch_kept}
 use Rattle.fb_search.proofs.Renamed.{cover_joined}
-use Rattle.fb_search.proofs.RolesInTree.{minus_in_tree, minus_not_plus, minus_role, only_minus, plus_in_tree}
+use Rattle.fb_search.proofs.RolesInTree.{only_minus}
 use Rattle.fb_search.proofs.TakenVertices.{plus_over}
 
 -- all of a list fail a test where no one passes it
@@ -217,20 +213,6 @@ plus_or_minus root (e ∷ es) n there = minus (is_in-cases e.minus (e.plus ∷ t
         (is_in-head e.minus (minus_names es)))
     minus (inr more) later = plus (is_in-cases e.plus (tree_names root es) n more) later
 
--- so it has one of these roles
-role_there : (t : Grown) (n : ℕ) → is_in (tree_names t.root t.branches) n ≡ true
-    → (grows (role_in t n) ≡ true) ⊎ (role_in t n ≡ Minus)
-role_there t n there = by (is_in (plus_names t.root t.branches) n) (is_in (minus_names t.branches) n)
-    (plus_or_minus t.root t.branches n there)
-  where
-    by : (plus minus : Bool) → (plus ≡ true) ⊎ (minus ≡ true)
-        → (grows (if plus then Plus else (if minus then Minus else Out)) ≡ true)
-        ⊎ ((if plus then Plus else (if minus then Minus else Out)) ≡ Minus)
-    by true minus h = inl refl
-    by false true h = inr refl
-    by false false (inl none) = absurd (false≢true none)
-    by false false (inr none) = absurd (false≢true none)
-
 -- The roles of nodes before and after some of them are joined under a name that no node had: no other node becomes plus, and
 -- the minus nodes that are not joined stay minus.
 module _ (p : Problem) (nodes : List Node) (before after : ℕ → Role) (name : ℕ) (children : List ℕ) (old new : Watched)
@@ -332,45 +314,6 @@ module _ (p : Problem) (nodes : List Node) (before after : ℕ → Role) (name :
       slack_away (roles_by before) (roles_by after) nodes Joined WasMinus (edge_at p.edges k) heights
       milder_closed (λ u v at_u at_v one. together_joined nodes name children names apart_after outer u v one)
       (λ v was. away was.0 v was.1 was.2 was.3))
-
-module _ (p : Problem) (nodes : List Node) (tree : Grown) (name : ℕ) (children : List ℕ) (old new : Watched)
-    (limits : IsWithinLimits p) (names : AreDistinct (map (λ n. n.name) nodes)) (apart : AreOuterApart nodes)
-    (apart_after : AreOuterApart (joined_nodes name children nodes))
-    (outer : is_outer (joined_nodes name children nodes) name ≡ true)
-    (may : MayJoin nodes name children)
-    (within : (n : ℕ) → is_in children n ≡ true → is_in (tree_names tree.root tree.branches) n ≡ true)
-    (watches : WatchesMinus p nodes tree children old new) where
-  abbrev After : Grown
-  After = replacements.joined_grown tree children name
-
-  plus_before_in : (n : ℕ) → n ≢ name → grows (role_in After n) ≡ true → is_in (plus_names tree.root tree.branches) n ≡ true
-  plus_before_in n other plus =
-      plus_before (is_in children) name tree.root tree.branches n other (plus_in_tree After n plus)
-
-  minus_after : (n : ℕ) → n ≢ name → is_in children n ≡ false → shrinks (role_in tree n) ≡ true
-      → shrinks (role_in After n) ≡ true
-  minus_after n other out minus =
-      let not_plus : is_in (plus_names After.root After.branches) n ≡ false =
-      false_from_ne_true (is_in (plus_names After.root After.branches) n)
-      (λ plus.
-      both_ways (is_in (plus_names tree.root tree.branches) n) (minus_not_plus tree n minus)
-      (plus_before (is_in children) name tree.root tree.branches n other plus)) in
-      minus_role After n not_plus (minus_stays (is_in children) name tree.branches n out (minus_in_tree tree n minus))
-
-  pub watch_closed : IsWatched p (roles_by (role_in tree)) nodes old.edges → All (λ k. k < length p.edges) new.edges
-      → IsWatched p (roles_by (role_in After)) (joined_nodes name children nodes) new.edges
-  watch_closed was below =
-      watch_joined p nodes (role_in tree) (role_in After) name children old new limits names apart apart_after outer may
-      (λ n child. role_there tree n (within n child)) (λ n other plus. plus_role tree n (plus_before_in n other plus)) minus_after
-      watches was below
-
-  pub bounded_closed : ((v : ℕ) → height_of (all_cuts (joined_nodes name children nodes)) v ≡ height_of (all_cuts nodes) v)
-      → AreBounded (slack_at p (roles_by (role_in tree)) nodes) old
-      → AreBounded (slack_at p (roles_by (role_in After)) (joined_nodes name children nodes)) new
-  bounded_closed heights was =
-      bounded_joined p nodes (role_in tree) (role_in After) name children old new limits names apart apart_after outer may
-      (λ n child. role_there tree n (within n child)) (λ n other plus. plus_role tree n (plus_before_in n other plus)) minus_after
-      watches heights was
 
 -- the same by the scope of the part's node, whose problem has no defects
 pub watches_minus : (part : PartValue) (g : DecodingGraph) (t : PlanTree) (n : ℕ) (nodes : List Node) (role : ℕ → Role)

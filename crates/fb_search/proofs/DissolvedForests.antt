@@ -1,13 +1,14 @@
 -- What is kept while trees grow where some of them end, whose nodes are matched: the links, the matching and the whole state.
-use Rattle.std.proofs.Common.{ℕ, ◌≡◌, ◌⊎◌, inl, inr, cond, true, All, List, [], ◌∷◌, ◌++◌, map, None, unwrap_or, refl, sym, ap, subst, ◌∙◌, append_assoc}
+use Rattle.std.proofs.Common.{ℕ, ◌≡◌, ◌⊎◌, inl, inr, cond, not, true, All, List, [], ◌∷◌, ◌++◌, map, None, unwrap_or, refl, sym, ap, subst, ◌∙◌, append_assoc}
 use Rattle.std.specs.List.Sorted.{IsPermutation}
 use Rattle.std.proofs.lemmas.List.{map-append}
 use Rattle.std.proofs.lemmas.List.Sorted.{IsPermutation-append_right, IsPermutation-cons, IsPermutation-middle, IsPermutation-refl, IsPermutation-sym, IsPermutation-trans}
 use Rattle.fb_graph.specs.Parity.{is_in}
+use Rattle.fb_graph.specs.Certificate.{AreDistinct}
 use Rattle.fb_graph.specs.Laws.{Link}
 use Rattle.fb_graph.proofs.Among.{IsAmong, All_among, among_All, among_either}
 use Rattle.fb_graph.proofs.Floods.{is_in-left, is_in-right}
-use Rattle.fb_graph.proofs.Sets.{is_in-head, is_in-tail}
+use Rattle.fb_graph.proofs.Sets.{distinct-filter, is_in-head, is_in-tail}
 use Rattle.fb_laws.specs.ForestStates.{IsForestState}
 use Rattle.fb_laws.specs.StateOrders.{AgreeAt}
 use Rattle.fb_laws.specs.LinkNumbers.{tree_links}
@@ -29,6 +30,8 @@ use Rattle.fb_search.specs.InternalGrowing.{GrowingValue, IsGrowing, all_along, 
 use Rattle.fb_search.proofs.EndedLinks.{link_kept, links_kept, links_permuted, new_number}
 use Rattle.fb_search.proofs.EndedMatches.{LeadsBy, leads_still}
 use Rattle.fb_search.proofs.EndedParts.{map_same, ring_within}
+use Rattle.fb_search.proofs.WaitingNames.{linked_roots}
+use Rattle.fb_search.proofs.WaitingStates.{waiting_among, waiting_read}
 
 -- branches and trees whose links stay
 entries_still : (old new : Table) (es : List (EntryOf ℕ))
@@ -173,8 +176,25 @@ module _ (w : GrowingValue) (left : List Grown) (new : Table) (unmatched : List 
       (is_in-right before (grown_ids left ++ rings) id
       (is_in-right (grown_ids left) rings id (ring_within w.part.nodes w.part.store n live id within))))
 
+  -- the nodes that wait, told by what a law says of the state
+  pub waits_left : (rest : List Link) (named waits : List ℕ) (parity : ℕ) → IsPermutation named unmatched
+      → IsForestState (problem_in w.part)
+      (record {
+        nodes = w.part.nodes;
+        cycles = cycles_by w.part.links w.part.store;
+        trees = map (tree_by w.part.links) left;
+        rest = rest;
+        unmatched = named;
+        waiting = waits;
+        parity = parity;
+      })
+      → (n : ℕ) → is_in (waiting_among left unmatched) n ≡ is_in waits n
+  waits_left rest named waits parity listed state =
+      waiting_read (problem_in w.part) _ left unmatched state (linked_roots w.part.links left)
+      (λ n. same_permuted named unmatched listed n)
+
   -- the state, given what a law says of it
-  pub state_left : (rest : List Link) (named : List ℕ) (parity : ℕ)
+  pub state_left : (rest : List Link) (named waits : List ℕ) (parity : ℕ)
       → IsPermutation rest (map (link_by w.part.links) before ++ link_of is.walk ∷ []) → IsPermutation named unmatched
       → IsForestState (problem_in w.part)
       (record {
@@ -183,6 +203,7 @@ module _ (w : GrowingValue) (left : List Grown) (new : Table) (unmatched : List 
         trees = map (tree_by w.part.links) left;
         rest = rest;
         unmatched = named;
+        waiting = waits;
         parity = parity;
       })
       → IsForestState (problem_in w.part)
@@ -192,15 +213,21 @@ module _ (w : GrowingValue) (left : List Grown) (new : Table) (unmatched : List 
         trees = map (tree_by new) left;
         rest = map (link_by new) (match_links matches_left);
         unmatched = unmatched;
+        waiting = waiting_among left unmatched;
         parity = parity;
       })
-  state_left rest named parity moved listed state =
-      forest_state_relisted (problem_in w.part) _ (cycles_by new w.part.store) unmatched agree
-      (distinct_permuted named unmatched listed state.names.distinct) (λ n. same_permuted named unmatched listed n)
+  state_left rest named waits parity moved listed state =
+      forest_state_relisted (problem_in w.part) _ (cycles_by new w.part.store) unmatched (waiting_among left unmatched) agree distinct
+      (λ n. same_permuted named unmatched listed n)
+      (distinct-filter (λ n. not (is_in (map (λ (g : Grown). g.root) left) n)) unmatched distinct)
+      (waits_left rest named waits parity listed state)
       (forest_state_permuted (problem_in w.part) _ (map (tree_by new) left) (map (link_by new) (match_links matches_left))
       (subst (IsPermutation (map (tree_by w.part.links) left)) (sym trees) (IsPermutation-refl (map (tree_by w.part.links) left)))
       (subst (IsPermutation rest) (sym rest_left) moved) state)
     where
+      distinct : AreDistinct unmatched
+      distinct = distinct_permuted named unmatched listed state.names.distinct
+
       trees : map (tree_by new) left ≡ map (tree_by w.part.links) left
       trees =
           trees_still w.part.links new left

@@ -1,11 +1,11 @@
 -- Where a tree is given up while its root's potential is even, its nodes are matched as before, and the state is one
 -- between searches.
-use Rattle.std.proofs.Common.{ℕ, ◌≡◌, ◌==◌, ◌%◌, ◌⊎◌, inl, inr, not, ◌++◌, Some, sym, ap, ◌∙◌}
+use Rattle.std.proofs.Common.{◌≡◌, ◌==◌, ◌%◌, ◌⊎◌, inl, inr, not, ◌++◌, ap, ◌∙◌}
 use Rattle.std.proofs.lemmas.Bool.{and_from, cases_eq, ne_eqb}
 use Rattle.fb_graph.specs.Parity.{is_in}
 use Rattle.fb_graph.specs.Problem.{Problem}
 use Rattle.fb_graph.specs.Covers.{HaveParity}
-use Rattle.fb_graph.specs.Dual.{all_cuts, cover_of, height_of}
+use Rattle.fb_graph.specs.Dual.{all_cuts, height_of}
 use Rattle.fb_graph.proofs.Sets.{is_in-filter}
 use Rattle.fb_laws.specs.PartStates.{IsPartState, IsSearchState, PartState, SearchState}
 use Rattle.fb_laws.specs.Trees.{paired_links, tree_names}
@@ -44,11 +44,3 @@ even_dissolved p s state zero = record {
   cycles = state.cycles;
   names = state.names;
 }
-
--- the same where a vertex under the root has an even potential
-pub state_dissolved : (p : Problem) (s : SearchState) (v : ℕ) → IsSearchState p s → cover_of s.nodes v ≡ Some s.root
-    → height_of (all_cuts s.nodes) v % 2 ≡ 0 → IsPartState p (dissolved s)
-state_dissolved p s v state covered even =
-    let (d, leaf, under, same) = state.search.nest.dual.parity v s.root covered in
-    even_dissolved p s state
-    (sym (state.search.search.parity d s.root leaf under (root_in_tree s.root s.tree)) ∙ (same ∙ even))

@@ -49,7 +49,9 @@ IsAside p nodes names k =
 pub each_first : (p : Problem) (nodes : List Node) (w : Watched) → WatchesEach p nodes [] w w
 each_first p nodes w = record {
   room = refl;
+  minus = refl;
   kept = λ k h. h;
+  near = λ name v k mem held less touch. absurd (false≢true mem);
   bounds = λ first last each right. bounded_by first last w (λ k. each k (λ name v mem held. absurd (false≢true mem))) right;
 }
 
@@ -59,10 +61,17 @@ pub each_on : (p : Problem) (nodes : List Node) (names : List ℕ) (i : ℕ) (a 
     → WatchesEach p nodes (take (i + 1) names) a c
 each_on p nodes names i a b c lt before more = record {
   room = more.room ∙ before.room;
+  minus = more.minus ∙ before.minus;
   kept = λ k h. more.kept k (before.kept k h);
+  near = λ name v k mem held less touch. at name v k held less touch (is_in-take_more names i name lt mem);
   bounds = bounds;
 }
   where
+    at : (name v k : ℕ) → is_in (top_at nodes name) v ≡ true → k < length p.edges → touches v (edge_at p.edges k) ≡ true
+        → (is_in (take i names) name ≡ true) ⊎ (get_or names i 0 ≡ name) → is_in c.edges k ≡ true
+    at name v k held less touch (inl old) = more.kept k (before.near name v k old held less touch)
+    at name v k held less touch (inr same) = more.near v k (ap (λ n. is_in (top_at nodes n) v) same ∙ held) less touch
+
     away_all : (k : ℕ) → IsAside p nodes (take i names) k
         → list_any (λ u. touches u (edge_at p.edges k)) (top_at nodes (get_or names i 0)) ≡ false → (name v : ℕ)
         → is_in (top_at nodes name) v ≡ true → (is_in (take i names) name ≡ true) ⊎ (get_or names i 0 ≡ name)
@@ -123,7 +132,9 @@ pub each_same : (p : Problem) (nodes : List Node) (names others : List ℕ) (old
     → WatchesEach p nodes names old new → WatchesEach p nodes others old new
 each_same p nodes names others old new same watches = record {
   room = watches.room;
+  minus = watches.minus;
   kept = watches.kept;
+  near = λ name v k mem held less touch. watches.near name v k (same name mem) held less touch;
   bounds = λ first last each. watches.bounds first last (λ k away. each k (λ name v mem held. away name v (same name mem) held));
 }
 
@@ -167,4 +178,4 @@ pub kept_each : (part : PartValue) (g : DecodingGraph) (t : PlanTree) (n : ℕ) 
 kept_each part g t n nodes names old new eg watches =
     let w : WatchesEach (problem_at (graph_in part) t n no_shot) nodes names old new =
     subst (λ h. WatchesEach (problem_at h t n no_shot) nodes names old new) eg watches in
-    record { room = w.room; kept = w.kept; bounds = w.bounds }
+    record { room = w.room; minus = w.minus; kept = w.kept; near = w.near; bounds = w.bounds }

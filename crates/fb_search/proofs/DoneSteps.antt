@@ -4,11 +4,6 @@ use Rattle.std.specs.Prelude.{Result, Ok, Err, IfOk, OnOk}
 use Rattle.std.specs.Result.{result_and}
 use Rattle.fb_half.proofs.DoneSteps.{done_with}
 
-pub and_ok : {T U E : Type 0} (P : U → Type 0) (done : Result T E) (value : U) → OnOk done (P value)
-    → IfOk (result_and done (Ok value)) P
-and_ok P (Ok x) value holds = holds
-and_ok P (Err e) value holds = holds
-
 pub done_weaker : {T U E : Type 0} (P : U → Type 0) (done : Result T E) (given : U) (result : Result U E)
     → IfOk result (λ value. Ok value ≡ result_and done (Ok given)) → OnOk done (P given) → IfOk result P
 done_weaker P done given (Ok value) is has = done_with P done given value is has

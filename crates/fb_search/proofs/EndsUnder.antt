@@ -1,10 +1,9 @@
 -- Which end of a tight link lies in an outer node: the one that is a defect there.
-use Rattle.std.proofs.Common.{ℕ, ◌≡◌, ◌≢◌, ◌==◌, inl, inr, true, false, List, Option, Some, refl, ap, ◌∙◌}
-use Rattle.std.proofs.lemmas.Bool.{eq-eqb, false_from_ne_true, or_left}
+use Rattle.std.proofs.Common.{ℕ, ◌≡◌, ◌≢◌, inl, inr, true, false, Some, refl}
+use Rattle.std.proofs.lemmas.Bool.{false_from_ne_true}
 use Rattle.fb_graph.specs.Parity.{is_in}
 use Rattle.fb_graph.specs.Dual.{cover_of}
-use Rattle.fb_blossoms.specs.Nodes.{IsNested, IsOuter, IsOuterOf, defects_at, defects_of, leaf, node_at}
-use Rattle.fb_blossoms.specs.Nodes as blossoms
+use Rattle.fb_blossoms.specs.Nodes.{IsNested, defects_at}
 use Rattle.fb_laws.specs.Trees.{Connects}
 use Rattle.fb_laws.proofs.HeldDefects.{covered_is_held}
 use Rattle.fb_half.specs.Parts.{PartValue, problem_in}
@@ -35,9 +34,3 @@ module _ (w : PartValue) (name other link : ℕ) (may : MayEnter w name other li
           (nested.outer other name from (outer_in_store w.nodes w.store other may.agreed there.1)
           (outer_in_store w.nodes w.store name may.agreed may.may_split.outer) there.2 holds)
       by (inr (first, second)) holds = out second
-
--- the outer node round the leaf of a defect holds the defect
-pub leaf_round : (store : List (Option blossoms.Node)) (x outer d : ℕ) → node_at store x ≡ Some (leaf d) → IsOuterOf store x outer
-    → is_in (defects_at store outer) d ≡ true
-leaf_round store x outer d is round =
-    round.round d (ap (λ o. is_in (defects_of o) d) is ∙ or_left (d == d) false (eq-eqb d d refl))

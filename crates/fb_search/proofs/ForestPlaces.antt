@@ -17,7 +17,7 @@ use Rattle.fb_half.specs.Matchings.{match_links}
 use Rattle.fb_half.specs.Translations.{cycles_by, entry_by, link_by}
 use Rattle.fb_trees.specs.Branches.{Grown}
 use Rattle.fb_trees.specs.Forests.{IsPlusNode, all_minus, all_plus, tree_at, trees_in}
-use Rattle.fb_search.specs.InternalGrowing.{GrowingValue, all_along, forest_state_at, grown_ids, tree_by}
+use Rattle.fb_search.specs.InternalGrowing.{GrowingValue, all_along, forest_state_at, grown_ids, tree_by, waiting_in}
 
 -- the trees of lower numbers
 abbrev pub trees_before : List (Option Grown) → ℕ → List Grown
@@ -105,15 +105,9 @@ module _ (of : Grown → List ℕ) (all : List Grown → List ℕ) (none : all [
       by (inl a) = inr (back (is_in-left (all xs) (all ys) n a))
       by (inr b) = last (is_in-both (of g) (all ys) n b)
 
-pub ids_append : (xs ys : List Grown) → grown_ids (xs ++ ys) ≡ grown_ids xs ++ grown_ids ys
-ids_append xs ys = all_append (λ g. tree_links g.branches) grown_ids refl (λ g gs. refl) xs ys
-
 pub ids_first : (xs ys : List Grown) (g : Grown)
     → IsPermutation (grown_ids (xs ++ g ∷ ys)) (tree_links g.branches ++ grown_ids (xs ++ ys))
 ids_first xs ys g = all_first (λ g. tree_links g.branches) grown_ids refl (λ g gs. refl) xs ys g
-
-pub along_append : (xs ys : List Grown) → all_along (xs ++ ys) ≡ all_along xs ++ all_along ys
-along_append xs ys = all_append (λ g. nodes_along g.branches) all_along refl (λ g gs. refl) xs ys
 
 pub along_first : (xs ys : List Grown) (g : Grown)
     → IsPermutation (all_along (xs ++ g ∷ ys)) (nodes_along g.branches ++ all_along (xs ++ ys))
@@ -176,7 +170,7 @@ after_by w t = map (tree_by w.part.links) (trees_after w.forest t)
 
 -- the trees' state is that of one tree among the others
 pub state_among : (w : GrowingValue) (t : ℕ) (g : Grown) (parity : ℕ) → tree_at w.forest t ≡ Some g
-    → forest_state_at w parity ≡ among_trees (before_by w t) (after_by w t) (own_state w g parity)
+    → forest_state_at w parity ≡ among_trees (before_by w t) (after_by w t) (waiting_in w) (own_state w g parity)
 state_among w t g parity at =
     (λ k.
     record (forest_state_at w parity) {

@@ -1,6 +1,6 @@
 -- A vertex that a plus node absorbs, and an empty layer that is taken off a minus node, keep what is kept while trees grow, and
 -- leave less to do.
-use Rattle.std.proofs.Common.{ℕ, ◌≡◌, ◌<◌, ◌++◌, true, false, List, length, map, All, Some, None, IsSome, refl, sym, ap, ◌∙◌, inr, subst, le_refl}
+use Rattle.std.proofs.Common.{ℕ, ◌≡◌, ◌+◌, ◌*◌, ◌<◌, ◌++◌, true, false, List, length, map, All, Some, None, IsSome, refl, sym, ap, ◌∙◌, inr, subst, le_refl, arith}
 use Rattle.std.specs.List.{last_or}
 use Rattle.fb_graph.specs.Problem.{Problem, edge_at}
 use Rattle.fb_graph.specs.declared.parts.Edge.{Edge}
@@ -31,15 +31,18 @@ use Rattle.fb_half.specs.Parts.{AreLinksOf, problem_in}
 use Rattle.fb_trees.specs.Forests.{role_among, trees_in}
 use Rattle.fb_trees.proofs.TightWalks.{ends_told}
 use Rattle.fb_obstacles.specs.InternalWatching.{WatchesTaken}
-use Rattle.fb_obstacles.specs.Obstacles.{IsAbsorb, IsWatched, slack_at}
+use Rattle.fb_obstacles.specs.Obstacles.{AreMinusBounded, IsAbsorb, IsWatched, slack_at}
 use Rattle.fb_obstacles.specs.Watched.{AreBounded, Watched}
-use Rattle.fb_search.specs.InternalGrowing.{GrowingValue, IsGrowing, all_along, forest_state_at, grown_ids, roles_among}
-use Rattle.fb_search.specs.InternalGrowth.{GrowsOn}
+use Rattle.fb_search.specs.InternalGrowing.{GrowingValue, IsGrowing, all_along, forest_state_at, grown_ids, roles_among, waiting_in}
+use Rattle.fb_search.specs.InternalGrowth.{GrowsOn, IsGrownFrom}
+use Rattle.fb_search.specs.Progress as Progress
 use Rattle.fb_search.proofs.GrowingRoles.{linked_trees, roles_are_all, roles_numbers}
+use Rattle.fb_search.proofs.MinusBounds.{minus_changed}
 use Rattle.fb_search.proofs.Relayered.{agreed_relayered, matching_relayered, ring_relayered}
 use Rattle.fb_search.proofs.RolesInTree.{not_both}
 use Rattle.fb_search.proofs.TakenVertices.{bounded_taken, near_taken, plus_over}
 use Rattle.fb_search.proofs.UncoveredLayers.{bounded_freed, given_last, real_last, watch_freed}
+use Rattle.fb_search.proofs.WaitingApart.{waiting_lower, waiting_taller}
 
 -- the trees with their nodes in other layers, and with other edges watched
 abbrev pub relayered_growing : (Node → Node) → Watched → GrowingValue → GrowingValue
@@ -51,8 +54,9 @@ growing_relayered : (w : GrowingValue) (f : Node → Node) (watched : Watched) (
     → watched.edge_count ≡ w.watched.edge_count
     → IsWatched (problem_in w.part) (roles_among w.forest) (map f w.part.nodes) watched.edges
     → AreBounded (slack_at (problem_in w.part) (roles_among w.forest) (map f w.part.nodes)) watched
+    → AreMinusBounded (roles_among w.forest) (map f w.part.nodes) watched
     → IsGrowing (relayered_growing f watched w)
-growing_relayered w f watched are kept alike state room watch bounds = record {
+growing_relayered w f watched are kept alike state room watch bounds minus = record {
   job = are.job;
   slot = are.slot;
   node = are.node;
@@ -70,6 +74,18 @@ growing_relayered w f watched are kept alike state room watch bounds = record {
   room = room ∙ are.room;
   watch = watch;
   bounds = bounds;
+  minus = minus;
+}
+
+-- No name changes with the layers.
+layers_grown : (w : GrowingValue) (f : Node → Node) (watched : Watched) → Progress.AreKept (waiting_in w) w.part.nodes (map f w.part.nodes)
+    → IsGrownFrom w (relayered_growing f watched w)
+layers_grown w f watched kept = record {
+  part = record { job = refl; slot = refl; node = refl };
+  waits = λ n waits. waits;
+  kept = kept;
+  least = le_refl (length w.part.matching.unmatched + length (trees_in w.forest));
+  most = le_refl (length w.part.matching.unmatched + 2 * length (trees_in w.forest));
 }
 
 -- the roles of the laws
@@ -89,9 +105,9 @@ growing_raised name v watched w = relayered_growing (change name (taller_node v)
 
 pub growing_taller : ForestStateAbsorbed → (w : GrowingValue) (k u v name : ℕ) (new : Watched) → IsGrowing w
     → IsWithinLimits (problem_in w.part) → MayAbsorb (problem_in w.part) w.part.nodes name k u v
-    → All (λ j. j < new.edge_count) new.edges
+    → (roles_among w.forest).is_plus name ≡ true → All (λ j. j < new.edge_count) new.edges
     → WatchesTaken (problem_in w.part) (absorbed_nodes name v w.part.nodes) v w.watched new → IsGrowing (growing_raised name v new w)
-growing_taller law w k u v name new are limits may within watched =
+growing_taller law w k u v name new are limits may plus within watched =
     let p : Problem = problem_in w.part in
     let roles : Roles = roles_among w.forest in
     let alike = (taller_alike w.part.nodes name v (no_leaf p w.part.nodes v are.state.1.nest.dual may.uncovered)).0 in
@@ -104,6 +120,8 @@ growing_taller law w k u v name new are limits may within watched =
       near = near_taken p roles w.part.nodes name v limits w.watched new watched are.watch;
     })
     (bounded_taken p roles w.part.nodes name v limits w.watched new watched are.watch alike.heights are.bounds)
+    (minus_changed roles name (taller_node v) w.part.nodes w.watched new watched.minus (λ n. refl)
+    (λ i d less same minus. absurd (not_both (role_among w.forest name) plus minus)) are.minus)
   where
     outer : is_outer w.part.nodes name ≡ true
     outer =
@@ -114,7 +132,7 @@ pub grows_on_taller : ForestAbsorbedLess → (w : GrowingValue) (k u v name : �
     → IsWithinLimits (problem_in w.part) → MayAbsorb (problem_in w.part) w.part.nodes name k u v
     → (roles_among w.forest).is_plus name ≡ true → GrowsOn w (growing_raised name v new w)
 grows_on_taller law w k u v name new are limits may plus = record {
-  part = record { job = refl; slot = refl; node = refl };
+  grown = layers_grown w (change name (taller_node v)) new (waiting_taller w name v are plus);
   less = inr (
     le_refl (length w.part.matching.unmatched),
     subst (λ roles. IsLower (left_to_do (problem_in w.part) (absorbed_nodes name v w.part.nodes) roles true) (left_to_do (problem_in w.part) w.part.nodes roles false))
@@ -204,11 +222,13 @@ growing_lower law w name last new are minus may is within taken =
     (bounded_freed roles lower name last (λ n. not_both (role_among w.forest n)) minus given.live given.outer given.free p
     w.watched new taken (subst (λ ns. (u : ℕ) → height_of (all_cuts lower) u ≡ height_of (all_cuts ns) u) (sym given.back) alike.heights)
     (subst (λ ns. AreBounded (slack_at p roles ns) w.watched) (sym given.back) are.bounds))
+    (minus_changed roles name without_top w.part.nodes w.watched new taken.minus (λ n. refl)
+    (λ i d less same minus. omega (arith, (may.bare i d less same).1)) are.minus)
 
 pub grows_on_lower : ForestUncoveredLess → (w : GrowingValue) (name : ℕ) (new : Watched) → IsGrowing w
     → (roles_among w.forest).is_minus name ≡ true → MayUncover w.part.nodes name → GrowsOn w (growing_lowered name new w)
 grows_on_lower law w name new are minus may = record {
-  part = record { job = refl; slot = refl; node = refl };
+  grown = layers_grown w (change name without_top) new (waiting_lower w name are minus);
   less = inr (
     le_refl (length w.part.matching.unmatched),
     subst (λ roles. IsLower (left_to_do (problem_in w.part) (uncovered_nodes name w.part.nodes) roles true) (left_to_do (problem_in w.part) w.part.nodes roles false))

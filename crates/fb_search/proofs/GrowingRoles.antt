@@ -1,6 +1,7 @@
 -- The roles that trees which grow together give, and what is so of their nodes.
 use Rattle.std.proofs.Common.{ℕ, ◌≡◌, ◌==◌, ◌≤◌, ◌<◌, ◌⊎◌, inl, inr, ◌||◌, Bool, true, false, List, [], ◌∷◌, ◌++◌, map, length, All, Option, refl, sym, ap, ◌∙◌, subst, if◌then◌else◌, arith}
 use Rattle.std.proofs.lemmas.Bool.{both_ways, eq-eqb, eqb-true, false_from_ne_true, or_cases}
+use Rattle.std.proofs.lemmas.List.{length-map}
 use Rattle.std.proofs.lemmas.List.Elements.{All-head, All-tail}
 use Rattle.std.proofs.lemmas.List.Folds.{list_any_at}
 use Rattle.fb_graph.specs.Parity.{is_in}
@@ -39,8 +40,9 @@ use Rattle.fb_trees.specs.Forests.{all_minus, all_plus, all_roles, trees_in}
 use Rattle.fb_trees.specs.InternalSteps.{AreTreesOver}
 use Rattle.fb_trees.proofs.Mapped as mapped
 use Rattle.fb_obstacles.specs.Obstacles.{grows, roles_by, shrinks}
-use Rattle.fb_search.specs.InternalGrowing.{GrowingValue, forest_state_at, roles_among, tree_by}
+use Rattle.fb_search.specs.InternalGrowing.{GrowingValue, forest_state_at, roles_among, roots_in, tree_by, waiting_in}
 use Rattle.fb_search.proofs.SearchRoles.{distinct_roles}
+use Rattle.fb_search.proofs.WaitingNames.{linked_roots}
 
 -- the trees with their links in the place of the numbers of these
 abbrev pub linked_trees : GrowingValue → List AnyTree
@@ -131,7 +133,7 @@ module _ (w : GrowingValue) (r : ℕ) (state : IsForestState (problem_in w.part)
   pub all_are : AreRoles (all_roles (trees_in w.forest)) w.part.nodes
   all_are =
       subst (λ roles. AreRoles roles w.part.nodes) (roles_numbers w.part.links (trees_in w.forest))
-      (forest_roles_are (problem_in w.part) w.part.nodes (linked_trees w) (forest_state_at w r).rest w.part.matching.unmatched r state.forest)
+      (forest_roles_are (problem_in w.part) w.part.nodes (linked_trees w) (forest_state_at w r).rest w.part.matching.unmatched (waiting_in w) r state.forest)
 
   -- the roles that trees give are those of their plus and minus nodes
   pub roles_are_all : roles_among w.forest ≡ all_roles (trees_in w.forest)
@@ -145,10 +147,10 @@ module _ (w : GrowingValue) (r : ℕ) (state : IsForestState (problem_in w.part)
 
       by : IsHeld (linked_trees w) name → is_live w.part.nodes name ≡ true
       by held =
-          let moved : IsForest (problem_in w.part) w.part.nodes (held.before ++ held.tree ∷ held.after) (forest_state_at w r).rest w.part.matching.unmatched r =
-          subst (λ ts. IsForest (problem_in w.part) w.part.nodes ts (forest_state_at w r).rest w.part.matching.unmatched r) held.there state.forest in
+          let moved : IsForest (problem_in w.part) w.part.nodes (held.before ++ held.tree ∷ held.after) (forest_state_at w r).rest w.part.matching.unmatched (waiting_in w) r =
+          subst (λ ts. IsForest (problem_in w.part) w.part.nodes ts (forest_state_at w r).rest w.part.matching.unmatched (waiting_in w) r) held.there state.forest in
           let found =
-          forest_tree (problem_in w.part) w.part.nodes held.before held.after held.tree (forest_state_at w r).rest w.part.matching.unmatched r moved in
+          forest_tree (problem_in w.part) w.part.nodes held.before held.after held.tree (forest_state_at w r).rest w.part.matching.unmatched (waiting_in w) r moved in
           live (named_set (problem_in w.part) w.part.nodes held.tree.branches (forest_paired (held.before ++ held.after) ++ (forest_state_at w r).rest)
           w.part.matching.unmatched held.tree.root r found name held.has)
 
@@ -185,16 +187,16 @@ module _ (w : GrowingValue) (r : ℕ) (state : IsForestState (problem_in w.part)
     crossed = λ name plus. crossed even name (plus_live name plus);
   }
 
-  -- an unmatched node is a root, and so plus
-  pub unmatched_plus : (n : ℕ) → is_in w.part.matching.unmatched n ≡ true
+  -- a root is an outer node, and plus
+  pub root_is_plus : (n : ℕ) → is_in (roots_in w.forest) n ≡ true
       → IsOuterNode w.part.nodes n × (is_in (all_plus (trees_in w.forest)) n ≡ true)
-  unmatched_plus n has =
-      let (outer, plus) = root_of w.part.nodes (linked_trees w) state.forest.outer n (sym (state.forest.roots n) ∙ has) in
+  root_is_plus n has =
+      let (outer, plus) =
+      root_of w.part.nodes (linked_trees w) state.forest.outer n (ap (λ l. is_in l n) (linked_roots w.part.links (trees_in w.forest)) ∙ has) in
       (outer, ap (λ l. is_in l n) (sym (plus_numbers w.part.links (trees_in w.forest))) ∙ plus)
 
-  -- as long as a node is unmatched there is a plus node
-  pub some_plus : 1 ≤ length w.part.matching.unmatched
-      → (n : ℕ) × IsOuterNode w.part.nodes n × (is_in (all_plus (trees_in w.forest)) n ≡ true)
+  -- as long as a tree is left there is a plus node
+  pub some_plus : 1 ≤ length (trees_in w.forest) → (n : ℕ) × IsOuterNode w.part.nodes n × (is_in (all_plus (trees_in w.forest)) n ≡ true)
   some_plus some =
-      let (n, has) = first_in w.part.matching.unmatched some in
-      let (outer, plus) = unmatched_plus n has in (n, outer, plus)
+      let (n, has) = first_in (roots_in w.forest) (subst (λ k. 1 ≤ k) (sym (length-map (trees_in w.forest) (λ g. g.root))) some) in
+      let (outer, plus) = root_is_plus n has in (n, outer, plus)

@@ -1,7 +1,6 @@
 -- A tree among others that meets the boundary: what the calls ask for, and that the other trees are growing trees still.
-use Rattle.std.proofs.Common.{ℕ, ◌≡◌, ◌<◌, ◌⊎◌, true, false, All, List, [], ◌∷◌, ◌++◌, map, length, Option, Some, unwrap_or, refl, sym, ap, subst, ◌∙◌, append_assoc}
+use Rattle.std.proofs.Common.{ℕ, ◌≡◌, ◌<◌, true, false, All, List, [], ◌∷◌, ◌++◌, map, Option, Some, unwrap_or, refl, sym, ap, subst, ◌∙◌, append_assoc}
 use Rattle.std.specs.List.Sorted.{IsPermutation}
-use Rattle.std.proofs.lemmas.List.Sorted.{length_permutation}
 use Rattle.fb_graph.specs.Covers.{passes}
 use Rattle.fb_graph.specs.Parity.{is_in}
 use Rattle.fb_graph.proofs.Among.{among_left}
@@ -9,6 +8,7 @@ use Rattle.fb_graph.proofs.Floods.{is_in-left}
 use Rattle.fb_graph.proofs.Sets.{All-from_is_in}
 use Rattle.fb_graph.specs.Dual as dual
 use Rattle.fb_laws.specs.ForestMoves.{IsFewer, ended_forest}
+use Rattle.fb_laws.specs.Forests.{AnyTree}
 use Rattle.fb_laws.specs.ForestStates.{IsForestState, among_trees, with_trees}
 use Rattle.fb_laws.specs.LinkNumbers.{links_dropped}
 use Rattle.fb_laws.specs.StateMoves.{ended_state}
@@ -19,7 +19,7 @@ use Rattle.fb_links.specs.declared.walk.Step.{Step}
 use Rattle.fb_links.specs.Table.{Adds}
 use Rattle.fb_links.proofs.MovedLinks.{Table}
 use Rattle.fb_trees.specs.Branches.{Grown}
-use Rattle.fb_trees.specs.Forests.{IsPlusNode, all_minus, all_plus, tree_at, trees_in}
+use Rattle.fb_trees.specs.Forests.{IsPlusNode, tree_at, trees_in}
 use Rattle.fb_trees.specs.InternalMetWalks.{IsOut, IsOutWalk}
 use Rattle.fb_trees.specs.Rooted.{IsPlus}
 use Rattle.fb_trees.proofs.Mapped.{plus_moved}
@@ -33,21 +33,23 @@ use Rattle.fb_half.proofs.FreedMatches.{link_in}
 use Rattle.fb_obstacles.specs.Watched.{Watched}
 use Rattle.fb_plan.specs.Plans.{owner_of}
 use Rattle.fb_search.specs.InternalEndings.{ended_matches}
-use Rattle.fb_search.specs.InternalGrowing.{GrowingValue, IsGrowing, forest_links, grown_ids, roles_among, tree_by}
+use Rattle.fb_search.specs.InternalGrowing.{GrowingValue, IsGrowing, forest_links, grown_ids, roles_among, tree_by, waiting_in}
 use Rattle.fb_search.specs.InternalGrowth.{GrowsOn}
 use Rattle.fb_search.specs.InternalGrowingEnds.{IsTreeMatched, MayMatchTree, WatchesEach}
 use Rattle.fb_search.specs.InternalTreeMeetings.{GrowsOut}
-use Rattle.fb_search.proofs.DissolvedForests.{IsLeft, state_left, stays_by, out_link}
-use Rattle.fb_search.proofs.DissolvedGrowth.{apart_one, counted_one, growing_left, grows_left, lead_one, left_growth, listed_one, rest_one, root_unmatched, state_of_one}
+use Rattle.fb_search.proofs.DissolvedForests.{IsLeft, out_link, state_left, stays_by, waits_left}
+use Rattle.fb_search.proofs.DissolvedGrowth.{AreGone, apart_one, counted_one, gone_one, growing_left, grows_left, lead_one, left_growth, listed_one, rest_one, root_unmatched, state_of_one}
 use Rattle.fb_search.proofs.DroppedLinks.{dropped_live, dropped_once}
 use Rattle.fb_search.proofs.EndSteps.{distinct_before, fresh_last}
 use Rattle.fb_search.proofs.EndedCases.{taken_at_boundary}
 use Rattle.fb_search.proofs.EndedMatches.{AreTaken}
 use Rattle.fb_search.proofs.EndedWays.{boundary_match}
-use Rattle.fb_search.proofs.ForestPlaces.{after_by, before_by, minus_either, minus_of, own_state, plus_node, plus_more, trees_after, trees_before, trees_beside, trees_split, trees_without}
+use Rattle.fb_search.proofs.ForestPlaces.{after_by, before_by, own_state, plus_node, trees_after, trees_before, trees_beside, trees_without}
 use Rattle.fb_search.proofs.GrowingRoles.{minus_live, roles_are_all}
 use Rattle.fb_search.proofs.ListedSteps.{AddsName, Lists, last_listed, listed_ended, listed_more}
 use Rattle.fb_search.proofs.TakenNames.{without_taken}
+use Rattle.fb_search.proofs.TreesBeside.{minus_beside, minus_parted, minus_within, plus_beside}
+use Rattle.fb_search.proofs.WaitingStates.{waiting_among}
 use Rattle.std.proofs.lemmas.List.{map-append}
 
 -- a plus node by the roles is one of a tree
@@ -72,26 +74,11 @@ out_leads w k plus leads = record {
 
 module _ (w : GrowingValue) (t : ℕ) (g : Grown) (name : ℕ) (are : IsGrowing w) (at : tree_at w.forest t ≡ Some g)
     (plus : IsPlus g name) where
-  -- where one tree is dissolved fewer nodes are plus
-  pub plus_before : (n : ℕ) → is_in (all_plus (trees_beside w.forest t)) n ≡ true → is_in (all_plus (trees_in w.forest)) n ≡ true
-  plus_before n h =
-      ap (λ l. is_in (all_plus l) n) (trees_split w.forest t g at)
-      ∙ plus_more (trees_before w.forest t) (trees_after w.forest t) g n h
-
-  pub minus_before : (n : ℕ) → is_in (all_minus (trees_in w.forest)) n ≡ true
-      → (is_in (minus_names g.branches) n ≡ true) ⊎ (is_in (all_minus (trees_beside w.forest t)) n ≡ true)
-  minus_before n h =
-      minus_either (trees_before w.forest t) (trees_after w.forest t) g n
-      (ap (λ l. is_in (all_minus l) n) (sym (trees_split w.forest t g at)) ∙ h)
-
   -- its minus nodes are there
   pub minus_live_in : All (λ n. dual.is_live w.part.nodes n ≡ true) (minus_names g.branches)
   minus_live_in =
       All-from_is_in (λ n. dual.is_live w.part.nodes n ≡ true) (minus_names g.branches)
-      (λ n h.
-      minus_live w are.state.0 are.state.1 n
-      (ap (λ l. is_in (all_minus l) n) (trees_split w.forest t g at)
-      ∙ minus_of (trees_before w.forest t) (trees_after w.forest t) g n h))
+      (λ n h. minus_live w are.state.0 are.state.1 n (minus_within w.forest t g at n h))
 
   module _ (link : ℕ) (walk : List Step) (mid : Table) (adds : Adds w.part.links mid link walk) where
     abbrev ends : List Match
@@ -153,11 +140,11 @@ module _ (w : GrowingValue) (t : ℕ) (g : Grown) (name : ℕ) (are : IsGrowing 
           leads = (v, is.leaves, boundary);
         }
 
-        law : IsFewer (problem_in w.part) (among_trees (before_by w t) (after_by w t) (own_state w g are.state.0))
-            (ended_forest (before_by w t) (after_by w t) name (link_of walk)
+        law : IsFewer (problem_in w.part) (among_trees (before_by w t) (after_by w t) (waiting_in w) (own_state w g are.state.0))
+            (ended_forest (before_by w t) (after_by w t) (waiting_in w) name (link_of walk)
             (map (link_by w.part.links) (match_links w.part.matching.matches)) (own_state w g are.state.0))
         law =
-            forest_state_ended (problem_in w.part) (before_by w t) (after_by w t) (own_state w g are.state.0) name (link_of walk) v
+            forest_state_ended (problem_in w.part) (before_by w t) (after_by w t) (waiting_in w) (own_state w g are.state.0) name (link_of walk) v
             (record {
               plus = ap (λ l. is_in l name) (plus_moved (link_by w.part.links) g.root g.branches) ∙ plus;
               tight = is.walk_is.tight;
@@ -167,6 +154,16 @@ module _ (w : GrowingValue) (t : ℕ) (g : Grown) (name : ℕ) (are : IsGrowing 
         moved : IsPermutation (names_without g.root w.part.matching.unmatched) m.unmatched
         moved = without_taken g.root w.part.matching.unmatched m.unmatched are.state.1.names.distinct done.unmatched
 
+        abbrev told_of : List AnyTree → Type 0
+        told_of ts =
+            IsForestState (problem_in w.part)
+            (with_trees ts (waiting_in w) are.state.0
+            (ended_state name (link_of walk) (map (link_by w.part.links) (match_links w.part.matching.matches))
+            (names_without g.root w.part.matching.unmatched) (own_state w g are.state.0)))
+
+        told : told_of (map (tree_by w.part.links) (trees_beside w.forest t))
+        told = subst told_of (sym (map-append (tree_by w.part.links) (trees_before w.forest t) (trees_after w.forest t))) law.state
+
         state : IsForestState (problem_in w.part)
             (record {
               nodes = w.part.nodes;
@@ -174,17 +171,19 @@ module _ (w : GrowingValue) (t : ℕ) (g : Grown) (name : ℕ) (are : IsGrowing 
               trees = map (tree_by new) (trees_beside w.forest t);
               rest = map (link_by new) (match_links (w.part.matching.matches ++ (ended_matches g.branches name ++ boundary_match link name ∷ [])));
               unmatched = m.unmatched;
+              waiting = waiting_among (trees_beside w.forest t) m.unmatched;
               parity = are.state.0;
             })
         state =
             state_left w (trees_beside w.forest t) new m.unmatched w.part.matching.matches ends out are is_left
-            _ (names_without g.root w.part.matching.unmatched) are.state.0
-            (rest_one w t g name are at plus w.part.matching.matches (link_of walk)) moved
-            (subst (λ ts. IsForestState (problem_in w.part) (with_trees ts are.state.0 (ended_state name (link_of walk) (map (link_by w.part.links) (match_links w.part.matching.matches)) (names_without g.root w.part.matching.unmatched) (own_state w g are.state.0))))
-            (sym (map-append (tree_by w.part.links) (trees_before w.forest t) (trees_after w.forest t))) law.state)
+            _ (names_without g.root w.part.matching.unmatched) (waiting_in w) are.state.0
+            (rest_one w t g name are at plus w.part.matching.matches (link_of walk)) moved told
 
-        fewer : length m.unmatched < length w.part.matching.unmatched
-        fewer = subst (λ n. n < length w.part.matching.unmatched) (sym (length_permutation _ _ moved)) law.fewer
+        ended : AreGone w (trees_beside w.forest t) m.unmatched
+        ended =
+            gone_one w t g name are at plus m.unmatched done.unmatched
+            (waits_left w (trees_beside w.forest t) new m.unmatched w.part.matching.matches ends out are is_left
+            _ (names_without g.root w.part.matching.unmatched) (waiting_in w) are.state.0 moved told)
 
         gone : trees_in forest ≡ trees_beside w.forest t
         gone = ap trees_in done.dissolved ∙ trees_without w.forest t g at
@@ -198,9 +197,10 @@ module _ (w : GrowingValue) (t : ℕ) (g : Grown) (name : ℕ) (are : IsGrowing 
         boundary_left last is_last watched watches within =
             subst (λ n. IsGrowing (left_growth w new n forest watched) × GrowsOn w (left_growth w new n forest watched)) (sym listed) (
               growing_left w (trees_beside w.forest t) new m.unmatched w.part.matching.matches ends out are is_left forest gone watched
-                  (minus_names g.branches) plus_before minus_before watches within are.state.0 state,
+                  (minus_names g.branches) (plus_beside w.forest t g at) (minus_parted w.forest t g at) watches within
+                  (minus_beside w.forest t g at) are.state.0 state,
               grows_left w (trees_beside w.forest t) new m.unmatched w.part.matching.matches ends out are is_left forest gone watched
-                  (minus_names g.branches) plus_before minus_before watches within fewer,
+                  (minus_names g.branches) (plus_beside w.forest t g at) (minus_parted w.forest t g at) watches within ended,
             )
           where
             listed : last ≡ record { matches = w.part.matching.matches ++ (ended_matches g.branches name ++ boundary_match link name ∷ []); unmatched = m.unmatched }

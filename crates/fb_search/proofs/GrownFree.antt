@@ -1,5 +1,5 @@
 -- A free step of several trees before an obstacle is removed, or none.
-use Rattle.std.proofs.Common.{ℕ, ◌+◌, ◌≤◌, true, false, inl, inr, sym, subst, arith, le_refl, length}
+use Rattle.std.proofs.Common.{ℕ, ◌+◌, ◌≤◌, true, false, inl, inr, sym, subst, ◌∙◌, arith, le_refl, length}
 use Rattle.fb_graph.specs.Parity.{is_in}
 use Rattle.fb_graph.specs.Problem.{Problem, with_defects}
 use Rattle.fb_graph.specs.Dual.{leaves}
@@ -19,6 +19,7 @@ use Rattle.fb_search.specs.InternalGrowth.{Blocks, HasGrownFree, IsGrowthRewatch
 use Rattle.fb_search.proofs.ExchangedObstacles.{free_exchanged}
 use Rattle.fb_search.proofs.GrowingRoles.{all_are, roles_are_all}
 use Rattle.fb_search.proofs.Runs.{lower_trans}
+use Rattle.fb_search.proofs.WaitingApart.{waiting_stepped}
 
 -- trees that may not step next have less to do than trees that may
 still_waits : (w : GrowingValue) → IsLower (still_to_do w false) (still_to_do w true)
@@ -30,13 +31,19 @@ grown_free_none w after same = subst (HasGrownFree w) (sym same.same) (by after.
   where
     by : (watched : Watched) → HasGrownFree w (record w { watched = watched })
     by watched last goes = record {
-      part = goes.part;
+      grown = record {
+        part = goes.grown.part;
+        waits = goes.grown.waits;
+        kept = goes.grown.kept;
+        least = goes.grown.least;
+        most = goes.grown.most;
+      };
       less = lower_trans (still_to_do last true) (still_to_do w false) (still_to_do w true) goes.less (still_waits w);
     }
 
 -- with a step
-pub grown_free_step : (w after : GrowingValue) (k : ℕ) → IsGrowthRewatched (grown_by k w) after → HasGrownFree w after
-grown_free_step w after k same = subst (HasGrownFree w) (sym same.same) (by after.watched)
+pub grown_free_step : (w after : GrowingValue) (k : ℕ) → IsGrowing w → IsGrowthRewatched (grown_by k w) after → HasGrownFree w after
+grown_free_step w after k are same = subst (HasGrownFree w) (sym same.same) (by after.watched)
   where
     lowers : IsLower (still_to_do (grown_by k w) false) (still_to_do w true)
     lowers = inr (
@@ -46,7 +53,13 @@ grown_free_step w after k same = subst (HasGrownFree w) (sym same.same) (by afte
 
     by : (watched : Watched) → HasGrownFree w (record (grown_by k w) { watched = watched })
     by watched last goes = record {
-      part = record { job = goes.part.job; slot = goes.part.slot; node = goes.part.node };
+      grown = record {
+        part = record { job = goes.grown.part.job; slot = goes.grown.part.slot; node = goes.grown.part.node };
+        waits = goes.grown.waits;
+        kept = λ n waits. goes.grown.kept n waits ∙ waiting_stepped w k are n (goes.grown.waits n waits);
+        least = goes.grown.least;
+        most = goes.grown.most;
+      };
       less = lower_trans (still_to_do last true) (still_to_do (grown_by k w) false) (still_to_do w true) goes.less lowers;
     }
 

@@ -13,7 +13,7 @@ use Rattle.fb_laws.specs.ForestStates.{IsForestState}
 use Rattle.fb_half.specs.Matchings.{IsMatchOf, IsMatchingOf, MatchingValue, match_links}
 use Rattle.fb_half.specs.Parts.{AreLinksOf, graph_in, problem_in}
 use Rattle.fb_half.specs.Translations.{link_by}
-use Rattle.fb_obstacles.specs.Obstacles.{slack_at}
+use Rattle.fb_obstacles.specs.Obstacles.{AreMinusBounded, slack_at}
 use Rattle.fb_obstacles.specs.Watched.{AreBounded}
 use Rattle.fb_plan.specs.Plans.{PlanTree, problem_at}
 use Rattle.fb_regions.proofs.Readings.{height-le}
@@ -21,9 +21,10 @@ use Rattle.fb_trees.specs.Forests.{all_roles, trees_in}
 use Rattle.fb_trees.specs.InternalSteps.{AreTreesOver}
 use Rattle.fb_search.specs.InternalGrowing.{GrowingValue, IsGrowing, all_along, forest_state_at, grown_ids, roles_among}
 use Rattle.fb_search.specs.InternalGrowth.{grown_by}
-use Rattle.fb_search.specs.InternalProgress.{lowered_by}
+use Rattle.fb_search.specs.InternalGrowth.{lowered_by}
 use Rattle.fb_search.proofs.GrowingRoles.{all_are, part_even, roles_are_all, roles_numbers, some_plus}
 use Rattle.fb_search.proofs.KeptBounds.{bounded_stepped}
+use Rattle.fb_search.proofs.MinusBounds.{minus_stepped}
 use Rattle.fb_search.proofs.Relayered.{agreed_relayered, ring_relayered}
 use Rattle.fb_search.proofs.SteppedSearches.{kept_stepped, match_stepped, risen-le, watch_stepped}
 
@@ -75,10 +76,14 @@ growing_stepped law w k are limits may =
           subst (λ rs. AreBounded (slack_at (problem_in w.part) rs (stepped_nodes roles k w.part.nodes)) (lowered_by k w.watched)) (sym same)
           (bounded_stepped roles w.part.nodes k are.state.1.nest.dual.apart (all_are w parity are.state.1) may.tops (problem_in w.part)
           w.watched (subst (λ rs. AreBounded (slack_at (problem_in w.part) rs w.part.nodes) w.watched) same are.bounds));
+      minus =
+          subst (λ rs. AreMinusBounded rs (stepped_nodes roles k w.part.nodes) (lowered_by k w.watched)) (sym same)
+          (minus_stepped roles k w.part.nodes w.watched (lowered_by k w.watched) (all_are w parity are.state.1).exclusive may.tops refl
+          (subst (λ rs. AreMinusBounded rs w.part.nodes w.watched) same are.minus));
     }
 
 -- A step is no longer than the greatest potential after it.
-pub grown_fits : (w : GrowingValue) (k : ℕ) → 1 ≤ length w.part.matching.unmatched → IsGrowing w → IsGrowing (grown_by k w)
+pub grown_fits : (w : GrowingValue) (k : ℕ) → 1 ≤ length (trees_in w.forest) → IsGrowing w → IsGrowing (grown_by k w)
     → MayStep (problem_in w.part) (all_roles (trees_in w.forest)) w.part.nodes k → k ≤ 2 ^ 52
 grown_fits w k some are after may =
     let roles : Roles = all_roles (trees_in w.forest) in

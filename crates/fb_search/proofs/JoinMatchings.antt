@@ -1,8 +1,7 @@
 -- The matching of a search after a cycle of its tree becomes a blossom.
-use Rattle.std.proofs.Common.{ℕ, ◌≡◌, true, false, List, ◌∷◌, ◌++◌, map, Option, refl, sym, ap, ◌∙◌, subst}
+use Rattle.std.proofs.Common.{ℕ, ◌≡◌, true, false, List, ◌++◌, map, Option, sym, ap, ◌∙◌, subst}
 use Rattle.std.specs.List.Sorted.{IsPermutation}
 use Rattle.std.proofs.lemmas.Bool.{both_ways, false_from_ne_true}
-use Rattle.std.proofs.lemmas.List.Sorted.{IsPermutation-sym}
 use Rattle.fb_graph.specs.Parity.{is_in}
 use Rattle.fb_graph.specs.Problem.{Problem}
 use Rattle.fb_graph.specs.Dual.{AreOuterApart, is_live}
@@ -15,8 +14,8 @@ use Rattle.fb_laws.specs.PartStates.{SearchState}
 use Rattle.fb_laws.specs.SearchBlossoms.{joined_tree, renamed_name}
 use Rattle.fb_laws.specs.Searches.{IsSearch}
 use Rattle.fb_laws.specs.StateBlossoms.{MayClose}
-use Rattle.fb_laws.specs.TreeCycles.{ArePaths, nodes_along}
-use Rattle.fb_laws.specs.Trees.{Entry, EntryOf, tree_names}
+use Rattle.fb_laws.specs.TreeCycles.{ArePaths}
+use Rattle.fb_laws.specs.Trees.{EntryOf, tree_names}
 use Rattle.fb_laws.proofs.OpenedBlossoms.{same_permuted}
 use Rattle.fb_trees.proofs.Mapped.{joined_moved, names_moved}
 use Rattle.fb_half.specs.Matchings.{IsMatchingOf, MatchingValue, listed_names, matched_names}
@@ -24,7 +23,7 @@ use Rattle.fb_half.specs.Translations.{entry_by, link_by}
 use Rattle.fb_search.proofs.Cycles.{cycle_from, same_cycle, paths_of}
 use Rattle.fb_search.proofs.JoinConditions.{cycle_within, nodes_may_join, outer_made}
 use Rattle.fb_search.proofs.Matched.{IsRenamed, matching_joined}
-use Rattle.fb_search.proofs.Renamed.{closed_renamed, cover_joined, tree_listed}
+use Rattle.fb_search.proofs.Renamed.{closed_renamed, cover_joined}
 use Rattle.fb_graph.proofs.Floods.{is_in-right}
 
 module _ (p : Problem) (s : SearchState) (links : List (Option (List Step))) (branches : List (EntryOf ℕ))
@@ -32,9 +31,6 @@ module _ (p : Problem) (s : SearchState) (links : List (Option (List Step))) (br
     (may : MayClose p s name a b (link_by links closing)) (paths : ArePaths branches a b shared up down)
     (rest : List Link) (nest : IsNest p s.nodes)
     (search : IsSearch p s.nodes s.tree rest s.unmatched s.root s.parity) (m : MatchingValue) where
-  abbrev moved : List (EntryOf ℕ) → List Entry
-  moved es = map (entry_by links) es
-
   abbrev cycle : List ℕ
   cycle = cycle_from s.root shared up down
 
@@ -95,22 +91,3 @@ module _ (p : Problem) (s : SearchState) (links : List (Option (List Step))) (br
         (cycle_within p s links branches tree_is name a b closing shared up down may paths rest nest search) may.fresh
         (outer_made p s links branches tree_is name a b closing shared up down may paths rest nest search)
         matched (cover_joined s.nodes name cycle apart_after)
-
-  -- The blossom is listed in the place of the root, if that is on the cycle; all matches are kept.
-  pub matching_closed : (beside unmatched : List ℕ) → IsMatchingOf p s.nodes links m (nodes_along branches)
-      → IsPermutation m.unmatched (s.root ∷ beside)
-      → IsPermutation (renamed_name (is_in cycle) name s.root ∷ beside) unmatched
-      → IsMatchingOf p (joined_nodes name cycle s.nodes) links (record { matches = m.matches; unmatched = unmatched })
-      (nodes_along (joined_tree (is_in cycle) name branches))
-  matching_closed beside unmatched was root_in listed =
-      matching_ring (nodes_along branches) (beside ++ matched_names m.matches) was
-      (tree_listed m.unmatched beside (matched_names m.matches) s.root branches root_in)
-      (record { matches = m.matches; unmatched = unmatched }) (nodes_along (joined_tree (is_in cycle) name branches)) refl
-      (IsPermutation-sym ((unmatched ++ matched_names m.matches) ++ nodes_along
-      (joined_tree (is_in cycle) name branches))
-      ((beside ++ matched_names m.matches)
-      ++ tree_names (renamed_name (is_in cycle) name s.root) (joined_tree (is_in cycle) name branches))
-      (tree_listed unmatched beside (matched_names m.matches) (renamed_name (is_in cycle) name s.root)
-      (joined_tree (is_in cycle) name branches)
-      (IsPermutation-sym (renamed_name (is_in cycle) name s.root ∷ beside) unmatched listed)))
-      (λ n there. is_in-right beside (matched_names m.matches) n there)

@@ -14,7 +14,7 @@ use Rattle.fb_obstacles.specs.InnerEdges.{is_inner, is_one_node}
 use Rattle.fb_obstacles.specs.Obstacles.{most_of, residue_of, slack_at, slack_by, slack_of}
 use Rattle.fb_obstacles.specs.Watched.{AreBounded, Watched}
 use Rattle.fb_obstacles.proofs.HeldEnds.{same_node}
-use Rattle.fb_search.specs.InternalProgress.{lowered_by}
+use Rattle.fb_search.specs.InternalGrowth.{lowered_by}
 
 -- What is over the vertex hinders a step no more than before: what grows there grew before, and what shrank shrinks
 -- still.

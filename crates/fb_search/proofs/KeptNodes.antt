@@ -1,23 +1,22 @@
 -- The unmatched nodes beside a search's root are outside its tree, and stay as they are while the tree's nodes change.
 use Rattle.std.proofs.Common.{ℕ, ◌≡◌, ◌≢◌, ◌==◌, ◌+◌, ◌-◌, ◌||◌, not, Bool, true, false, cond, List, [], ◌∷◌, ◌++◌, refl, sym, ap, ◌∙◌}
-use Rattle.std.proofs.lemmas.Bool.{and_parts, both_ways, eqb-true, false_from_ne_true, false≢true, ne_eqb}
+use Rattle.std.proofs.lemmas.Bool.{both_ways, eqb-true, false_from_ne_true, false≢true, ne_eqb}
 use Rattle.fb_graph.specs.Parity.{is_in}
-use Rattle.fb_graph.specs.Dual.{Node, change_at, is_live, taller_node}
-use Rattle.fb_graph.specs.Moves.{blossom, joined_nodes, without_top, split_nodes, absorbed_nodes, uncovered_nodes}
+use Rattle.fb_graph.specs.Dual.{Node, change_at, is_live}
+use Rattle.fb_graph.specs.Moves.{split_nodes}
 use Rattle.fb_graph.specs.Steps.{Roles, stepped_nodes, stepped_node}
-use Rattle.fb_graph.proofs.Sets.{is_in-filter}
 use Rattle.fb_laws.specs.Trees.{minus_names, plus_names, roles_of, tree_names}
 use Rattle.fb_laws.proofs.SearchStates.{unmatched_outside}
 use Rattle.fb_laws.proofs.SearchTrees.{minus_in_tree, plus_in_tree}
 use Rattle.fb_regions.specs.Moves.{node_named}
 use Rattle.fb_trees.proofs.Mapped.{minus_moved, plus_moved}
 use Rattle.fb_half.specs.Translations.{link_by}
-use Rattle.fb_search.specs.InternalProgress.{stepped_by, unmatched_beside}
+use Rattle.fb_search.specs.InternalSearching.{stepped_by, unmatched_beside}
 use Rattle.fb_search.specs.Progress.{AreKept}
-use Rattle.fb_search.specs.InternalSearching.{IsSearching, IsSearchingBeside, SearchValue, problem_of, state_at, unmatched_in}
+use Rattle.fb_search.specs.InternalSearching.{IsSearching, IsSearchingBeside, SearchValue, problem_of, state_at}
 
 -- another node is changed
-named_changed : (name n : ℕ) (f : Node → Node) → ((m : Node) → (f m).name ≡ m.name) → n ≢ name → (nodes : List Node)
+pub named_changed : (name n : ℕ) (f : Node → Node) → ((m : Node) → (f m).name ≡ m.name) → n ≢ name → (nodes : List Node)
     → node_named (change_at name f nodes) n ≡ node_named nodes n
 named_changed name n f same other [] = refl
 named_changed name n f same other (m ∷ ms) = step (m.name == name) refl (named_changed name n f same other ms)
@@ -31,7 +30,7 @@ named_changed name n f same other (m ∷ ms) = step (m.name == name) refl (named
     step false e rest = ap (λ (l : Node). cond (m.name == n) m l) rest
 
 -- other nodes step
-named_stepped : (roles : Roles) (k n : ℕ) → roles.is_plus n ≡ false → roles.is_minus n ≡ false → (nodes : List Node)
+pub named_stepped : (roles : Roles) (k n : ℕ) → roles.is_plus n ≡ false → roles.is_minus n ≡ false → (nodes : List Node)
     → node_named (stepped_nodes roles k nodes) n ≡ node_named nodes n
 named_stepped roles k n plus minus [] = refl
 named_stepped roles k n plus minus (m ∷ ms) = step (m.name == n) refl (named_stepped roles k n plus minus ms)
@@ -49,7 +48,7 @@ named_stepped roles k n plus minus (m ∷ ms) = step (m.name == n) refl (named_s
     step false e rest = rest
 
 -- a node is added behind it
-named_before : (n : ℕ) (new : Node) (nodes : List Node) → is_live nodes n ≡ true
+pub named_before : (n : ℕ) (new : Node) (nodes : List Node) → is_live nodes n ≡ true
     → node_named (nodes ++ new ∷ []) n ≡ node_named nodes n
 named_before n new [] live = absurd (false≢true live)
 named_before n new (m ∷ ms) live = step (m.name == n) live (named_before n new ms)
@@ -61,7 +60,7 @@ named_before n new (m ∷ ms) live = step (m.name == n) live (named_before n new
     step false there rest = rest there
 
 -- another node is taken away
-named_split : (name n : ℕ) → n ≢ name → (nodes : List Node) → node_named (split_nodes name nodes) n ≡ node_named nodes n
+pub named_split : (name n : ℕ) → n ≢ name → (nodes : List Node) → node_named (split_nodes name nodes) n ≡ node_named nodes n
 named_split name n other [] = refl
 named_split name n other (m ∷ ms) = step (m.name == name) refl (named_split name n other ms)
   where
@@ -95,48 +94,9 @@ module _ (more : List ℕ) (w : SearchValue) (are : IsSearchingBeside more w) (n
       ∙ false_from_ne_true (is_in (minus_names tree) n)
       (λ h. both_ways (is_in (tree_names w.tree.root tree) n) outside (minus_in_tree w.tree.root tree n h))
 
-  beside_live : is_live w.part.nodes n ≡ true
-  beside_live =
-      are.state.1.names.live n
-      (and_parts (is_in (unmatched_in w) n) (not (n == w.tree.root))
-      (sym (is_in-filter (λ x. not (x == w.tree.root)) (unmatched_in w) n) ∙ beside)).0
-
-  not_the_plus : (name : ℕ) → is_in (plus_names w.tree.root w.tree.branches) name ≡ true → n ≢ name
-  not_the_plus name plus same =
-      both_ways (is_in (plus_names w.tree.root w.tree.branches) n) beside_not_plus
-      (ap (is_in (plus_names w.tree.root w.tree.branches)) same ∙ plus)
-
-  not_the_minus : (name : ℕ) → is_in (minus_names w.tree.branches) name ≡ true → n ≢ name
-  not_the_minus name minus same =
-      both_ways (is_in (minus_names w.tree.branches) n) beside_not_minus
-      (ap (is_in (minus_names w.tree.branches)) same ∙ minus)
-
 -- the tree steps
 pub beside_stepped : (w : SearchValue) (k : ℕ) → IsSearching w
     → AreKept (unmatched_beside w) w.part.nodes (stepped_by k w).part.nodes
 beside_stepped w k are n beside =
     named_stepped (roles_of w.tree.root w.tree.branches) k n (beside_not_plus [] w are n beside)
     (beside_not_minus [] w are n beside) w.part.nodes
-
--- a plus node absorbs a vertex
-pub beside_taller : (w : SearchValue) (name v : ℕ) → IsSearching w → is_in (plus_names w.tree.root w.tree.branches) name ≡ true
-    → AreKept (unmatched_beside w) w.part.nodes (absorbed_nodes name v w.part.nodes)
-beside_taller w name v are plus n beside =
-    named_changed name n (taller_node v) (λ m. refl) (not_the_plus [] w are n beside name plus) w.part.nodes
-
--- a minus node loses its top layer
-pub beside_lower : (w : SearchValue) (name : ℕ) → IsSearching w → is_in (minus_names w.tree.branches) name ≡ true
-    → AreKept (unmatched_beside w) w.part.nodes (uncovered_nodes name w.part.nodes)
-beside_lower w name are minus n beside =
-    named_changed name n without_top (λ m. refl) (not_the_minus [] w are n beside name minus) w.part.nodes
-
--- nodes become a blossom
-pub beside_joined : (more : List ℕ) (w : SearchValue) (name : ℕ) (children : List ℕ) → IsSearchingBeside more w
-    → AreKept (unmatched_beside w) w.part.nodes (joined_nodes name children w.part.nodes)
-beside_joined more w name children are n beside =
-    named_before n (blossom name children w.part.nodes) w.part.nodes (beside_live more w are n beside)
-
--- a minus blossom is opened
-pub beside_split : (w : SearchValue) (name : ℕ) → IsSearching w → is_in (minus_names w.tree.branches) name ≡ true
-    → AreKept (unmatched_beside w) w.part.nodes (split_nodes name w.part.nodes)
-beside_split w name are minus n beside = named_split name n (not_the_minus [] w are n beside name minus) w.part.nodes

@@ -8,13 +8,10 @@ use Rattle.fb_graph.specs.Laws.{Link}
 use Rattle.fb_graph.specs.Limits.{IsWithinLimits, no_shot}
 use Rattle.fb_graph.specs.Parity.{is_in}
 use Rattle.fb_graph.specs.Problem.{Problem, edge_at, no_edge}
-use Rattle.fb_graph.proofs.Among.{IsAmong, All_among, among_All, among_either, among_left, among_map}
-use Rattle.fb_graph.proofs.Floods.{is_in-left, is_in-right}
+use Rattle.fb_graph.proofs.Among.{IsAmong, All_among, among_All, among_either, among_map}
+use Rattle.fb_graph.proofs.Floods.{is_in-left}
 use Rattle.fb_graph.proofs.Members.{is_in_pushed}
-use Rattle.fb_laws.specs.LinkNumbers.{links_dropped, tree_links}
 use Rattle.fb_laws.specs.Trees.{EntryOf, branches_beside, path_to}
-use Rattle.fb_laws.proofs.MergedParts.{distinct_across}
-use Rattle.fb_laws.proofs.OpenedBlossoms.{distinct_permuted}
 use Rattle.fb_plan.specs.Laws.{IsJob}
 use Rattle.fb_plan.specs.Plans.{PlanTree, owner_of, problem_at}
 use Rattle.fb_plan.specs.Vertices.{is_node}
@@ -35,11 +32,7 @@ use Rattle.fb_half.specs.Translations.{link_by, link_of, ring_links}
 use Rattle.fb_half.specs.Values.{HasScope, IsScopeOf, part_of}
 use Rattle.fb_half.proofs.FreedMatches.{among_permuted, link_in}
 use Rattle.fb_half.proofs.SeamOpenings.{walk_below}
-use Rattle.fb_search.specs.InternalEndings.{Forgets, all_matches, beside_match, ended_matches, path_match}
-use Rattle.fb_search.specs.InternalSearching.{IsSearching, SearchValue, problem_of, searched_links}
-use Rattle.fb_search.proofs.EndedCases.{links_counted}
-use Rattle.fb_search.proofs.EndedLinks.{link_kept, new_number}
-use Rattle.fb_search.proofs.EndedParts.{others_kept}
+use Rattle.fb_search.specs.InternalEndings.{all_matches, beside_match, ended_matches, path_match}
 use Rattle.fb_search.proofs.EndedWays.{boundary_match, met_match}
 
 pub scope_is : (parts : Parts) → HasScope parts → IsScopeOf parts.regions.scope (part_of parts)
@@ -71,22 +64,6 @@ made_stays p old new ids link walk are adds id within = by_link old new id (adds
     other : id ≡ link → ⊥
     other same =
         false≢true (sym (sym (are.live link) ∙ ap is_some adds.fresh) ∙ (ap (is_in ids) (sym same) ∙ within))
-
-pub searched_in : (w : SearchValue) (m : Match) → IsAmong m w.part.matching.matches → is_in (searched_links w) m.link ≡ true
-searched_in w m a =
-    is_in-right (tree_links w.tree.branches) (kept_links w.part) m.link
-    (is_in-left (match_links w.part.matching.matches) (ring_links w.part.nodes w.part.store) m.link (link_in w.part.matching.matches m a))
-
--- A link is made in a search, and some of its matches stay.
-pub listed_made : (w : SearchValue) (s : Seams) (new : Table) (link : ℕ) (walk : List Step) (after : List Match) → IsSearching w
-    → Adds w.part.links new link walk → ((m : Match) → IsAmong m after → IsAmong m w.part.matching.matches) → Lists s w.part
-    → AreListed (problem_of w).is_real w.part.job.plan s new after
-listed_made w s new link walk after are adds among listed =
-    listed_kept (problem_of w).is_real w.part.job.plan s w.part.links new w.part.matching.matches after listed
-    (λ m a none. (
-      among m a,
-      made_stays (problem_of w) w.part.links new (searched_links w) link walk are.links adds m.link (searched_in w m (among m a)),
-    ))
 
 -- the match of one node is taken out
 pub taken_among : (before after : List Match) (taken m : Match) → IsPermutation before (taken ∷ after) → IsAmong m after → IsAmong m before
@@ -159,81 +136,6 @@ pub owner_scoped : (scope : NodeScope) (w : PartValue) (l : Link) → IsScopeOf 
     → owner_of scope.plan.now (far_end (scope_problem scope).is_real l)
     ≡ owner_of w.job.plan (far_end (problem_in w).is_real l)
 owner_scoped scope w l is = (λ i. owner_of (is.plan i) (far_end (problem_at (is.graph i) (is.plan i) (is.node i) no_shot).is_real l))
-
--- the links of the matches stay as a search ends
-module _ (w : SearchValue) (name link : ℕ) (walk : List Step) (mid new : Table) (are : IsSearching w) (adds : Adds w.part.links mid link walk)
-    (forgets : Forgets (links_dropped w.tree.branches name) mid new) where
-  counted : IsPermutation (searched_links w) (others_kept w name w.part.matching.matches ++ links_dropped w.tree.branches name)
-  counted = links_counted w.tree.branches name w.part.matching.matches (ring_links w.part.nodes w.part.store)
-
-  ended_stays : (m : Match) → IsAmong m w.part.matching.matches
-      → IsAmong m w.part.matching.matches × (link_by new m.link ≡ link_by w.part.links m.link)
-  ended_stays m a = (
-    a,
-    by_link w.part.links new m.link
-        (link_kept (problem_of w) w.part.links mid new (searched_links w) (others_kept w name w.part.matching.matches)
-        (links_dropped w.tree.branches name) link walk are.links counted adds forgets m.link
-        (is_in-left (match_links (w.part.matching.matches ++ ended_matches w.tree.branches name)) (ring_links w.part.nodes w.part.store) m.link
-        (link_in (w.part.matching.matches ++ ended_matches w.tree.branches name) m (among_left w.part.matching.matches (ended_matches w.tree.branches name) m a)))),
-  )
-
-  -- nor does the new link go
-  last_stays : link_by new link ≡ link_by mid link
-  last_stays =
-      by_link mid new link
-      (forgets link
-      ∙ ap (λ b. cond b None (link_at mid link))
-      (new_number (problem_of w) w.part.links mid (searched_links w) (others_kept w name w.part.matching.matches)
-      (links_dropped w.tree.branches name) link walk are.links counted adds).1)
-
-  pub met_listed : (other : ℕ) (s : Seams) → Lists s w.part
-      → AreListed (problem_of w).is_real w.part.job.plan s new (all_matches w.part.matching.matches w.tree.branches name (met_match link name other))
-  met_listed other s listed =
-      listed_ended (problem_of w).is_real w.part.job.plan s w.part.links new w.part.matching.matches w.part.matching.matches w.tree.branches name
-      (met_match link name other) listed ended_stays (paired_listed (problem_of w).is_real w.part.job.plan s new link name other)
-
-  pub out_listed : (s after : Seams) (owner : Option ℕ) → Lists s w.part → AddsName owner name s after
-      → owner ≡ owner_of w.part.job.plan (far_end (problem_of w).is_real (link_by mid link))
-      → AreListed (problem_of w).is_real w.part.job.plan after new (all_matches w.part.matching.matches w.tree.branches name (boundary_match link name))
-  out_listed s after owner listed lists is =
-      listed_ended (problem_of w).is_real w.part.job.plan after w.part.links new w.part.matching.matches w.part.matching.matches w.tree.branches name
-      (boundary_match link name) (listed_more (problem_of w).is_real w.part.job.plan s after w.part.links w.part.matching.matches owner name lists listed) ended_stays
-      (last_listed (problem_of w).is_real w.part.job.plan s after new owner link name lists
-      (is ∙ ap (λ l. owner_of w.part.job.plan (far_end (problem_of w).is_real l)) (sym last_stays)))
-
--- and as a tree is given up
-pub left_listed : (w : SearchValue) (s : Seams) (new : Table) → IsSearching w → Forgets (links_dropped w.tree.branches w.tree.root) w.part.links new
-    → Lists s w.part
-    → AreListed (problem_of w).is_real w.part.job.plan s new (w.part.matching.matches ++ ended_matches w.tree.branches w.tree.root)
-left_listed w s new are forgets listed =
-    listed_kept (problem_of w).is_real w.part.job.plan s w.part.links new w.part.matching.matches (matches ++ ended) listed
-    (λ m a none. by m none (among_either matches ended m a))
-  where
-    matches : List Match
-    matches = w.part.matching.matches
-
-    ended : List Match
-    ended = ended_matches w.tree.branches w.tree.root
-
-    gone : List ℕ
-    gone = links_dropped w.tree.branches w.tree.root
-
-    within : (m : Match) → IsAmong m matches → is_in (others_kept w w.tree.root matches) m.link ≡ true
-    within m a =
-        is_in-left (match_links (matches ++ ended)) (ring_links w.part.nodes w.part.store) m.link
-        (link_in (matches ++ ended) m (among_left matches ended m a))
-
-    by : (m : Match) → m.second ≡ None → IsAmong m matches ⊎ IsAmong m ended → IsAmong m matches × (link_by new m.link ≡ link_by w.part.links m.link)
-    by m none (inl a) = (
-      a,
-      by_link w.part.links new m.link
-          (forgets m.link
-          ∙ ap (λ b. cond b None (link_at w.part.links m.link))
-          (distinct_across (others_kept w w.tree.root matches) gone m.link
-          (distinct_permuted (searched_links w) (others_kept w w.tree.root matches ++ gone)
-          (links_counted w.tree.branches w.tree.root matches (ring_links w.part.nodes w.part.store)) are.links.distinct) (within m a))),
-    )
-    by m none (inr a) = absurd (ended_paired w.tree.branches w.tree.root m a none)
 
 -- a single defect is matched at once: one link is made, and one match
 module _ (w : PartValue) (link : ℕ) (walk : List Step) (new : Table) (are : IsPart w) (adds : Adds w.links new link walk) where

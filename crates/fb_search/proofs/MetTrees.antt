@@ -1,18 +1,19 @@
 -- Trees that have met a matched node may take it in with its mate.
-use Rattle.std.proofs.Common.{ℕ, ◌≡◌, ◌≢◌, ◌<◌, true, All, List, set, Option, Some, sym, ap, ◌∙◌, subst}
+use Rattle.std.proofs.Common.{ℕ, ◌≡◌, ◌≢◌, ◌*◌, ◌<◌, true, All, List, set, Option, Some, sym, ap, ◌∙◌, subst}
 use Rattle.fb_graph.specs.Parity.{is_in}
 use Rattle.fb_graph.specs.Dual.{is_live, top_at}
 use Rattle.fb_graph.specs.Limits.{IsWithinLimits}
 use Rattle.fb_half.specs.Matchings.{matched_names}
 use Rattle.fb_half.specs.Parts.{problem_in}
 use Rattle.fb_links.specs.Table as table
-use Rattle.fb_obstacles.specs.InternalWatching.{Watches}
+use Rattle.fb_obstacles.specs.InternalWatching.{EntersNode, Watches}
 use Rattle.fb_obstacles.specs.Watched.{Watched}
+use Rattle.fb_regions.specs.Moves.{node_named}
 use Rattle.fb_trees.specs.Branches.{Grown}
 use Rattle.fb_trees.specs.Forests.{IsOutside, IsPlusNode, IsTreeOf, tree_at}
 use Rattle.fb_trees.specs.Rooted.{attached_grown}
 use Rattle.fb_trees.proofs.Names.{plus_in_tree}
-use Rattle.fb_search.specs.declared.attaching.Met.{Met}
+use Rattle.fb_search.specs.declared.growing_meets.Met.{Met}
 use Rattle.fb_search.specs.InternalGrowing.{GrowingValue, IsGrowing}
 use Rattle.fb_search.specs.InternalGrowth.{GrowsOn}
 use Rattle.fb_search.specs.InternalMeetings.{IsCouple}
@@ -53,6 +54,11 @@ module _ (w : GrowingValue) (met : Met) (now : GrowingValue) (h : HasMetTree w m
   pub met_live : is_live now.part.nodes mate ≡ true
   met_live = ap (λ s. is_live s.part.nodes mate) h.is ∙ live_matched (problem_in w.part) w.part.nodes w.part.links w.part.matching _ h.was.matching mate listed.1
 
+  pub met_entered : is_live now.part.nodes met.other ≡ true
+  met_entered =
+      ap (λ s. is_live s.part.nodes met.other) h.is
+      ∙ live_matched (problem_in w.part) w.part.nodes w.part.links w.part.matching _ h.was.matching met.other listed.0
+
   pub met_apart : met.other ≢ mate
   met_apart = couple_apart (problem_in w.part) w.part.nodes w.part.links w.part.matching _ h.was.matching met.taken now.part.matching.matches h.matches met.other mate couple
 
@@ -66,8 +72,9 @@ module _ (w : GrowingValue) (met : Met) (now : GrowingValue) (h : HasMetTree w m
         has = plus_in_tree grown.root grown.branches met.plus h.plus.plus;
       })
 
-  pub met_attached : IsWithinLimits (problem_in now.part) → (new : Watched) → All (λ j. j < new.edge_count) new.edges
-      → Watches (problem_in now.part) (top_at now.part.nodes mate) now.watched new
+  pub met_attached : IsWithinLimits (problem_in now.part) → (between new : Watched) → All (λ j. j < new.edge_count) new.edges
+      → EntersNode met.other (2 * (node_named now.part.nodes met.other).top.value) now.watched between
+      → Watches (problem_in now.part) (top_at now.part.nodes mate) between new
       → IsGrowing (with_grown tree grown (branch_met met mate) new now)
   met_attached = attached_keeps w met now h mate couple tree grown h.plus.at h.plus.plus
 

@@ -1,30 +1,25 @@
 -- The bounds of minus nodes stay right while a search goes on.
-use Rattle.std.proofs.Common.{ℕ, ◌≡◌, ◌≢◌, ◌+◌, ◌-◌, ◌*◌, ◌≤◌, ◌==◌, ◌&&◌, ◌||◌, ◌⊎◌, inl, inr, not, cond, Bool, true, false, nat_le, List, [], ◌∷◌, ◌++◌, length, map, filter, All, refl, sym, ap, ◌∙◌, subst, arith}
-use Rattle.std.proofs.lemmas.Bool.{and_from, and_parts, both_ways, cases_eq, cond-false, eqb-true, eq-eqb, false≢true, le-leb, leb-true, ne_eqb}
-use Rattle.std.proofs.lemmas.List.Elements.{All-cons, All-filter, All-head, All-map, All-nil, All-tail, All-weaker, All-append}
+use Rattle.std.proofs.Common.{ℕ, ◌≡◌, ◌+◌, ◌-◌, ◌*◌, ◌≤◌, ◌==◌, ◌&&◌, ◌||◌, ◌⊎◌, inl, inr, not, cond, Bool, true, false, nat_le, List, [], ◌∷◌, ◌++◌, map, All, refl, sym, ap, ◌∙◌, subst, arith}
+use Rattle.std.proofs.lemmas.Bool.{and_from, and_parts, both_ways, eqb-true, false≢true, le-leb, leb-true}
+use Rattle.std.proofs.lemmas.List.Elements.{All-cons, All-filter, All-map, All-nil, All-append}
 use Rattle.std.proofs.lemmas.List.{map-append}
 use Rattle.std.proofs.Math.Bool.{or-true}
-use Rattle.fb_graph.specs.Certificate.{AreDistinct}
-use Rattle.fb_graph.specs.Dual.{Node, is_live, no_node, taller_node}
-use Rattle.fb_graph.specs.Moves.{blossom, joined_nodes, split_nodes, without_top}
+use Rattle.fb_graph.specs.Dual.{Node}
+use Rattle.fb_graph.specs.Moves.{blossom, joined_nodes, split_nodes}
 use Rattle.fb_graph.specs.Parity.{is_in}
 use Rattle.fb_graph.specs.Steps.{AllowShrinking, AreExclusive, Roles, stepped_node, stepped_nodes, stepped_value}
 use Rattle.fb_graph.proofs.ChangedNodes.{change}
 use Rattle.fb_graph.proofs.Among.{IsAmong, All_among, among_All}
-use Rattle.fb_graph.proofs.Floods.{is_in-left, is_in-right}
 use Rattle.fb_graph.proofs.Members.{is_in-append}
 use Rattle.fb_graph.proofs.Sets.{is_in-cases, is_in-head, is_in-tail}
 use Rattle.fb_laws.specs.OpenedCycles.{PassOf, last_of, opened_branches, opened_tree, paired_on}
 use Rattle.fb_laws.specs.SearchBlossoms.{joined_tree, outer_branches, renamed_entry}
-use Rattle.fb_laws.specs.Trees.{EntryOf, minus_names, plus_names}
-use Rattle.fb_regions.specs.Moves.{node_named}
-use Rattle.fb_trees.specs.Branches.{Grown}
-use Rattle.fb_trees.specs.Rooted.{attached_grown, bare, role_in}
-use Rattle.fb_obstacles.specs.Obstacles.{AreMinusBounded, roles_by, shrinks}
-use Rattle.fb_obstacles.specs.InternalWatching.{EntersNode, lowered_bounds}
+use Rattle.fb_laws.specs.Trees.{EntryOf, minus_names}
+use Rattle.fb_trees.specs.Rooted.{bare, role_in}
+use Rattle.fb_obstacles.specs.Obstacles.{AreMinusBounded, roles_by}
+use Rattle.fb_obstacles.specs.InternalWatching.{lowered_bounds}
 use Rattle.fb_obstacles.specs.Watched.{NodeBound, Watched, has_bound}
-use Rattle.fb_obstacles.proofs.NodeLooks.{named_only}
-use Rattle.fb_search.proofs.RolesInTree.{minus_in_tree, minus_not_plus, minus_role}
+use Rattle.fb_search.proofs.RolesInTree.{minus_in_tree}
 
 -- the bound of a node's top layer
 abbrev pub IsBoundedBy : Roles → Watched → Node → Type 0
@@ -147,35 +142,6 @@ minus_fewer before after nodes old new kept were bounded =
         → has_bound new.nodes n.name (2 * n.top.value) ≡ true
     by n was (inl minus) = kept n.name (2 * n.top.value) (was minus)
     by n was (inr here) = here
-
-or_false : (a b : Bool) → (a || b) ≡ false → b ≡ false
-or_false true b e = absurd (false≢true (sym e))
-or_false false b e = e
-
--- a node and its mate join the tree
-pub minus_attached : (t : Grown) (e : EntryOf ℕ) (nodes : List Node) (old between new : Watched)
-    → AreDistinct (map (λ n. n.name) nodes) → EntersNode e.minus (2 * (node_named nodes e.minus).top.value) old between
-    → new.nodes ≡ between.nodes → AreMinusBounded (roles_by (role_in t)) nodes old
-    → AreMinusBounded (roles_by (role_in (attached_grown t e))) nodes new
-minus_attached t e nodes old between new distinct enters same =
-    minus_fewer (roles_by (role_in t)) (roles_by (role_in (attached_grown t e))) nodes old new
-    (λ name limit is. subst (λ bs. has_bound bs name limit ≡ true) (sym same) (enters.kept name limit is))
-    (among_All (λ n. shrinks (role_in (attached_grown t e) n.name) ≡ true
-    → (shrinks (role_in t n.name) ≡ true) ⊎ (has_bound new.nodes n.name (2 * n.top.value) ≡ true)) nodes
-    (λ n a minus.
-    by n a (or_false (e.plus == n.name) (is_in (plus_names t.root t.branches) n.name) (minus_not_plus (attached_grown t e) n.name minus))
-    (is_in-cases e.minus (minus_names t.branches) n.name (minus_in_tree (attached_grown t e) n.name minus))))
-  where
-    by : (n : Node) → IsAmong n nodes → is_in (plus_names t.root t.branches) n.name ≡ false
-        → (e.minus ≡ n.name) ⊎ (is_in (minus_names t.branches) n.name ≡ true)
-        → (shrinks (role_in t n.name) ≡ true) ⊎ (has_bound new.nodes n.name (2 * n.top.value) ≡ true)
-    by n a out (inl here) =
-        inr
-        (subst (λ bs. has_bound bs n.name (2 * n.top.value) ≡ true) (sym same)
-        (subst (λ m. has_bound between.nodes n.name (2 * m.top.value) ≡ true)
-        (sym (All_among (λ m. m.name ≡ n.name → m ≡ node_named nodes n.name) nodes (named_only nodes n.name distinct) n a refl))
-        (subst (λ x. has_bound between.nodes x (2 * (node_named nodes x).top.value) ≡ true) here enters.entered)))
-    by n a out (inr old) = inl (minus_role t n.name out old)
 
 -- a minus node of the tree with a blossom in it was minus
 pub minus_before : (joins : ℕ → Bool) (name : ℕ) (tree : List (EntryOf ℕ)) (n : ℕ)

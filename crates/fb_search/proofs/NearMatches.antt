@@ -27,7 +27,7 @@ use Rattle.fb_search.specs.InternalNear.{IsNearBoundary, alone}
 use Rattle.fb_trees.specs.InternalSteps.{IsTreeOver}
 use Rattle.fb_search.specs.InternalTightEdges.{LeadsOut}
 use Rattle.fb_trees.specs.InternalMetWalks.{IsOut, IsOutWalk}
-use Rattle.fb_search.specs.InternalProgress.{stepped_by}
+use Rattle.fb_search.specs.InternalSearching.{stepped_by}
 use Rattle.fb_search.specs.Progress.{IsSearched}
 use Rattle.fb_search.specs.InternalSearching.{IsSearching, SearchValue, roles_in}
 use Rattle.fb_search.proofs.BegunSearches.{kept_limits, touches_first, touches_second}

@@ -29,7 +29,7 @@ use Rattle.fb_search.specs.InternalNear.{IsNearPair, alone}
 use Rattle.fb_trees.specs.InternalSteps.{IsTreeOver}
 use Rattle.fb_search.specs.InternalTightEdges.{Meets}
 use Rattle.fb_trees.specs.InternalMetWalks.{IsBetween, IsMetWalk}
-use Rattle.fb_search.specs.InternalProgress.{stepped_by}
+use Rattle.fb_search.specs.InternalSearching.{stepped_by}
 use Rattle.fb_search.specs.Progress.{IsSearched}
 use Rattle.fb_search.specs.InternalSearching.{IsSearching, SearchValue, roles_in}
 use Rattle.fb_search.proofs.EndedParts.{part_after}

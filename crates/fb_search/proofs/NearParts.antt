@@ -14,7 +14,7 @@ use Rattle.fb_trees.specs.Rooted.{bare}
 use Rattle.fb_search.specs.declared.near.Near.{Near}
 use Rattle.fb_search.specs.declared.near.Near.TheVariants.{Boundary, Pair}
 use Rattle.fb_search.specs.InternalNear.{IsNear, IsNearBoundary, IsNearPair, alone}
-use Rattle.fb_search.specs.InternalProgress.{stepped_by}
+use Rattle.fb_search.specs.InternalSearching.{stepped_by}
 use Rattle.fb_search.specs.InternalSearching.{IsSearching, SearchValue}
 use Rattle.fb_search.proofs.DissolvedStates.{even_dissolved}
 use Rattle.fb_search.proofs.MinusBounds.{minus_begun}

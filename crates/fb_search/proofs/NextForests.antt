@@ -16,17 +16,18 @@ use Rattle.fb_plan.specs.Plans.{PlanTree, problem_at}
 use Rattle.fb_half.specs.Parts.{graph_in, problem_in, solved_shot}
 use Rattle.fb_trees.specs.Forests.{all_plus, all_roles, trees_in}
 use Rattle.fb_obstacles.specs.declared.obstacle.Obstacle.{Obstacle}
-use Rattle.fb_obstacles.specs.Obstacles.{HavePlusParity, IsObstacle, IsWatched, Obstructs, slack_at}
+use Rattle.fb_obstacles.specs.Obstacles.{AreMinusBounded, AreMinusLive, HavePlusParity, IsObstacle, IsWatched, Obstructs, slack_at}
 use Rattle.fb_obstacles.specs.Watched.{AreBounded, Watched}
 use Rattle.fb_search.specs.InternalGrowing.{GrowingValue, IsGrowing, roles_among}
 use Rattle.fb_search.proofs.ExchangedObstacles.{obstacle_exchanged, obstructs_exchanged}
-use Rattle.fb_search.proofs.GrowingRoles.{all_are, linked_trees, part_even, plus_numbers, roles_are_all, some_plus}
+use Rattle.fb_search.proofs.GrowingRoles.{all_are, linked_trees, minus_live, part_even, plus_numbers, roles_are_all, some_plus}
+use Rattle.fb_search.proofs.RolesAmong.{minus_among}
 
 module _ (w : GrowingValue) (are : IsGrowing w) where
   by_all : (P : Roles → Type 0) → P (all_roles (trees_in w.forest)) → P (roles_among w.forest)
   by_all P is = subst P (sym (roles_are_all w are.state.0 are.state.1)) is
 
-  pub trees_plus : 1 ≤ length w.part.matching.unmatched → HasPlus (roles_among w.forest) w.part.nodes
+  pub trees_plus : 1 ≤ length (trees_in w.forest) → HasPlus (roles_among w.forest) w.part.nodes
   trees_plus some =
       let (n, outer, plus) = some_plus w are.state.0 are.state.1 some in
       let (d, leaf, cover) = outer in
@@ -35,6 +36,9 @@ module _ (w : GrowingValue) (are : IsGrowing w) where
 
   pub trees_roles : AreRoles (roles_among w.forest) w.part.nodes
   trees_roles = by_all (λ roles. AreRoles roles w.part.nodes) (all_are w are.state.0 are.state.1)
+
+  pub trees_live : AreMinusLive (roles_among w.forest) w.part.nodes
+  trees_live name minus = minus_live w are.state.0 are.state.1 name (minus_among w.forest name minus)
 
   pub trees_parity : HavePlusParity (roles_among w.forest) w.part.nodes
   trees_parity =
@@ -89,8 +93,9 @@ module _ (w : GrowingValue) (are : IsGrowing w) where
     pub growing_rewatched : (now : Watched) → now.edge_count ≡ w.watched.edge_count
         → IsWatched (problem_at g t n no_shot) (roles_among w.forest) w.part.nodes now.edges
         → AreBounded (slack_at (problem_at g t n no_shot) (roles_among w.forest) w.part.nodes) now
-        → IsGrowing (record w { watched = now })
-    growing_rewatched now room watched bounded = record {
+        → AreMinusBounded (roles_among w.forest) w.part.nodes now → IsGrowing (record w { watched = now })
+    growing_rewatched now room watched bounded minus = record {
+      minus = minus;
       job = are.job;
       slot = are.slot;
       node = are.node;

@@ -36,7 +36,8 @@ use Rattle.fb_search.proofs.Openings.{IsOpening, Opens, round_in}
 use Rattle.fb_graph.proofs.Floods.{is_in-both, is_in-left, is_in-right}
 use Rattle.fb_graph.proofs.Members.{distinct_left, is_in-append}
 
-in_front : (t s : ℕ) (grown matched : List ℕ) (id : ℕ) → is_in (grown ++ matched) id ≡ true → is_in ((t ∷ grown) ++ (s ∷ matched)) id ≡ true
+in_front : (t s : ℕ) (grown matched : List ℕ) (id : ℕ) → is_in (grown ++ matched) id ≡ true
+    → is_in ((t ∷ grown) ++ (s ∷ matched)) id ≡ true
 in_front t s grown matched id there = by (or_cases (is_in grown id) (is_in matched id) (sym (is_in-append grown matched id) ∙ there))
   where
     by : (is_in grown id ≡ true) ⊎ (is_in matched id ≡ true) → is_in ((t ∷ grown) ++ (s ∷ matched)) id ≡ true
@@ -51,10 +52,12 @@ linked_on links s [] odd live = tt
 linked_on links s (t ∷ []) odd live = absurd (omega (arith, odd))
 linked_on links s (t ∷ u ∷ us) odd live = (
   live s.link
-      (is_in-right (t.link ∷ grown_on (way_from u us)) (s.link ∷ matched_on (way_from u us)) s.link (is_in-head s.link (matched_on (way_from u us)))),
+      (is_in-right (t.link ∷ grown_on (way_from u us)) (s.link ∷ matched_on (way_from u us)) s.link
+      (is_in-head s.link (matched_on (way_from u us)))),
   (
     live t.link
-        (is_in-left (t.link ∷ grown_on (way_from u us)) (s.link ∷ matched_on (way_from u us)) t.link (is_in-head t.link (grown_on (way_from u us)))),
+        (is_in-left (t.link ∷ grown_on (way_from u us)) (s.link ∷ matched_on (way_from u us)) t.link
+        (is_in-head t.link (grown_on (way_from u us)))),
     linked_on links u us (omega (arith, odd))
         (λ id there. live id (in_front t.link s.link (grown_on (way_from u us)) (matched_on (way_from u us)) id there)),
   ),

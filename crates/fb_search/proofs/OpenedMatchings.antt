@@ -188,7 +188,8 @@ module _ {more : List ℕ} (w : SearchValue) (name : ℕ) (e : EntryOf ℕ) (abo
       listed_kept (problem_of w).is_real w.part.job.plan s w.part.links links w.part.matching.matches matches_after was
       (λ m a none. (by m none (among_either w.part.matching.matches (couples_on Rest) m a), same_link m a))
     where
-      by : (m : Match) → m.second ≡ None → IsAmong m w.part.matching.matches ⊎ IsAmong m (couples_on Rest) → IsAmong m w.part.matching.matches
+      by : (m : Match) → m.second ≡ None → IsAmong m w.part.matching.matches ⊎ IsAmong m (couples_on Rest)
+          → IsAmong m w.part.matching.matches
       by m none (inl a) = a
       by m none (inr a) = absurd (no_second m (mate_of m.second) (sym (second_is Rest m a)) none)
 

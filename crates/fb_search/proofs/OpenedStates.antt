@@ -95,8 +95,8 @@ module _ {more : List ℕ} (w : SearchValue) (name : ℕ) (e : EntryOf ℕ) (abo
   }
 
   -- the way and the couples, as the laws see them
-  pub law_cycle : IsOpenedCycle (problem_of w) w.part.nodes (split_nodes e.minus w.part.nodes) (entry_by w.part.links e) above passes couples
-      w.part.matching.unmatched
+  pub law_cycle : IsOpenedCycle (problem_of w) w.part.nodes (split_nodes e.minus w.part.nodes) (entry_by w.part.links e) above passes
+      couples w.part.matching.unmatched
   law_cycle =
       subst
       (λ c.

@@ -1,7 +1,7 @@
 -- Which edges are watched after a minus blossom is opened, and which bounds stay right: all edges at its vertices come
 -- under watch.
 use Rattle.std.proofs.Common.{ℕ, ◌≡◌, ◌≢◌, ◌<◌, ◌⊎◌, inl, inr, true, false, List, [], ◌∷◌, ◌++◌, map, length, All, Option, Some, None, is_some, refl, sym, ap, ◌∙◌, subst, append_assoc}
-use Rattle.std.proofs.lemmas.Bool.{both_ways, cases_Bool, false_from_ne_true, false≢true}
+use Rattle.std.proofs.lemmas.Bool.{both_ways, cases_Bool, false≢true}
 use Rattle.std.proofs.lemmas.List.{map-append}
 use Rattle.fb_graph.specs.Parity.{is_in}
 use Rattle.fb_graph.specs.Problem.{Problem, edge_at, touches}
@@ -20,22 +20,19 @@ use Rattle.fb_laws.proofs.SearchTrees.{cover_place, cover_set}
 use Rattle.fb_trees.specs.Branches.{Grown}
 use Rattle.fb_trees.specs.Replacements.{way_of}
 use Rattle.fb_regions.specs.declared.roles.Role.{Role}
-use Rattle.fb_trees.specs.Rooted.{role_in}
 use Rattle.fb_obstacles.specs.Obstacles.{IsWatched, grows, roles_by, shrinks, slack_at}
 use Rattle.fb_obstacles.specs.Watched.{AreBounded, Watched}
-use Rattle.fb_search.specs.InternalSearching.{IsSearching, SearchValue, problem_of, roles_in}
+use Rattle.fb_search.specs.InternalSearching.{SearchValue, problem_of}
 use Rattle.fb_search.proofs.Agreed.{nodes_of}
 use Rattle.fb_search.proofs.BegunSearches.{touches_first, touches_second}
 use Rattle.fb_search.proofs.CoversBefore.{covered_unsplit}
 use Rattle.fb_search.proofs.KeptBounds.{IsMilder, milder_under, slack_away}
 use Rattle.fb_search.proofs.KeptWatches.{IsWatchedAt}
-use Rattle.fb_search.proofs.OpenedConditions.{children_are, cycle, inner, nest, way, way_named, way_opens, way_within}
-use Rattle.fb_search.proofs.OpenedNumbers.{after, branches_are}
+use Rattle.fb_search.proofs.OpenedConditions.{children_are, cycle, inner, nest, way, way_named, way_within}
+use Rattle.fb_search.proofs.OpenedNumbers.{branches_are}
 use Rattle.fb_search.proofs.OpenedSplits.{cover_stays}
-use Rattle.fb_search.proofs.Openings.{HasOpened, IsOpening, Opens, opening_of}
-use Rattle.fb_search.proofs.RolesInTree.{minus_in_tree, minus_not_plus, minus_role, not_both, plus_in_tree}
-use Rattle.fb_search.proofs.Runs.{tree_roles}
-use Rattle.fb_search.proofs.AttachedBranches.{plus_role}
+use Rattle.fb_search.proofs.Openings.{HasOpened, IsOpening, Opens}
+use Rattle.fb_search.proofs.RolesInTree.{not_both}
 use Rattle.fb_links.proofs.MovedLinks.{Table}
 use Rattle.fb_graph.proofs.Floods.{is_in-left, is_in-right}
 
@@ -312,44 +309,3 @@ module _ {more : List ℕ} (w : SearchValue) (name : ℕ) (e : EntryOf ℕ) (abo
       slack_away (roles_by before) (roles_by after_it) w.part.nodes Others WasHeld (edge_at (problem_of w).edges k)
       (height (problem_of w) w.part.nodes name opens.may_split (nest w name e above below are opens)) milder_opened
       (λ u v at_u at_v one. (one.0, same_cover u at_u ∙ one.1, same_cover v at_v ∙ one.2)) away)
-
-module _ (w : SearchValue) (name : ℕ) (e : EntryOf ℕ) (above below : ℕ) (are : IsSearching w)
-    (opens : Opens w name e above below) (links : Table) (store : List (Option blossoms.Node)) (tree : Grown) (watched : Watched)
-    (has : HasOpened w name above below links store tree watched) where
-  abbrev After : SearchValue
-  After = after w name e above below (opening_of w are) opens links store tree watched has
-
-  plus_before : (n : ℕ) → is_outer w.part.nodes n ≡ true → grows (role_in tree n) ≡ true → grows (role_in w.tree n) ≡ true
-  plus_before n outer plus =
-      plus_role w.tree n
-      (plus_was w name e above below (opening_of w are) opens links store tree watched has n outer (plus_in_tree tree n plus))
-
-  minus_still : (n : ℕ) → is_outer w.part.nodes n ≡ true → n ≢ name → shrinks (role_in w.tree n) ≡ true
-      → shrinks (role_in tree n) ≡ true
-  minus_still n outer other minus =
-      minus_role tree n
-      (false_from_ne_true (is_in (plus_names tree.root tree.branches) n)
-      (λ plus.
-      both_ways (is_in (plus_names w.tree.root w.tree.branches) n) (minus_not_plus w.tree n minus)
-      (plus_was w name e above below (opening_of w are) opens links store tree watched has n outer plus)))
-      (minus_now w name e above below (opening_of w are) opens links store tree watched has n other (minus_in_tree w.tree n minus))
-
-  is_minus : shrinks (role_in w.tree name) ≡ true
-  is_minus =
-      minus_role w.tree name
-      (false_from_ne_true (is_in (plus_names w.tree.root w.tree.branches) name)
-      (λ plus.
-      both_ways (is_in (minus_names w.tree.branches) name) ((tree_roles w are).exclusive name plus)
-      (way_opens w name e above below (opening_of w are) opens).minus))
-      (way_opens w name e above below (opening_of w are) opens).minus
-
-  pub watch_opened : IsWithinLimits (problem_of w)
-      → IsWatched (problem_of w) (roles_in After) (split_nodes name w.part.nodes) watched.edges
-  watch_opened limits =
-      watch_split w name e above below (opening_of w are) opens links store tree watched has (role_in w.tree) (role_in tree)
-      plus_before minus_still is_minus limits are.room are.watch
-
-  pub bounded_opened : AreBounded (slack_at (problem_of w) (roles_in After) (split_nodes name w.part.nodes)) watched
-  bounded_opened =
-      bounded_split w name e above below (opening_of w are) opens links store tree watched has (role_in w.tree) (role_in tree)
-      plus_before minus_still is_minus are.bounds

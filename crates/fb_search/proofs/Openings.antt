@@ -1,5 +1,5 @@
 -- A minus blossom opened by a search: what the calls ask for, what they make of the parts, and the search afterwards.
-use Rattle.std.proofs.Common.{ℕ, ◌<◌, All, List, [], ◌∷◌, ◌++◌, Option, get_or}
+use Rattle.std.proofs.Common.{ℕ, ◌<◌, All, List, ◌++◌, Option, get_or}
 use Rattle.fb_graph.specs.Dual.{top_at}
 use Rattle.fb_graph.specs.Laws.{Link}
 use Rattle.fb_graph.specs.Moves.{MaySplit, split_nodes}
@@ -10,7 +10,6 @@ use Rattle.fb_laws.specs.Searches.{IsSearch}
 use Rattle.fb_laws.specs.StateRings.{MayOpenAlong, round_of}
 use Rattle.fb_laws.specs.TreeCycles.{nodes_along}
 use Rattle.fb_laws.specs.Trees.{Entry, EntryOf}
-use Rattle.fb_laws.proofs.StateRings.{cycle_along}
 use Rattle.fb_links.specs.declared.cycle.CycleStep.{CycleStep}
 use Rattle.fb_links.specs.declared.walk.Step.{Step}
 use Rattle.fb_blossoms.specs.Nodes.{TakesOff, cycle_at}
@@ -23,7 +22,7 @@ use Rattle.fb_trees.specs.Rooted.{IsBranchAt}
 use Rattle.fb_obstacles.specs.Watched.{Watched}
 use Rattle.fb_search.specs.InternalEndings.{Forgets}
 use Rattle.fb_search.specs.InternalOpenings.{EndsAtChild, couples_on, even_on, links_left, round_on, way_on}
-use Rattle.fb_search.specs.InternalSearching.{IsSearching, SearchValue, problem_of, searched_links, state_at}
+use Rattle.fb_search.specs.InternalSearching.{SearchValue, problem_of, searched_links, state_at}
 use Rattle.fb_obstacles.specs.InternalWatching.{Watches}
 
 -- the round from the one child by the way on which the other is an even number of links on
@@ -55,22 +54,9 @@ pub record IsOpening (more : List ℕ) (w : SearchValue) : Type 0 where
       (way_to steps (round_of (state_at w parity) e children place))
       (couples_after steps (round_of (state_at w parity) e children place)) w.part.matching.unmatched
 
--- so in a search
-pub opening_of : (w : SearchValue) → IsSearching w → IsOpening [] w
-opening_of w are = record {
-  parity = are.state.0;
-  rest = (state_at w are.state.0).rest;
-  nest = are.state.1.search.nest;
-  search = are.state.1.search.search;
-  agreed = are.agreed;
-  links = are.links;
-  matching = are.matching;
-  along = λ newer older e children place steps may.
-      cycle_along (problem_of w) (state_at w are.state.0) newer older e children place steps are.state.1 may;
-}
-
 -- the search afterwards
-abbrev pub opened_search : ℕ → List CycleStep → List (Option (List Step)) → List (Option blossoms.Node) → Grown → Watched → SearchValue → SearchValue
+abbrev pub opened_search : ℕ → List CycleStep → List (Option (List Step)) → List (Option blossoms.Node) → Grown → Watched
+    → SearchValue → SearchValue
 opened_search name rest links store tree watched w = record {
   part = record w.part {
     nodes = split_nodes name w.part.nodes;
@@ -83,7 +69,8 @@ opened_search name rest links store tree watched w = record {
 }
 
 -- What the calls make of the parts.
-pub record HasOpened (w : SearchValue) (name above below : ℕ) (links : List (Option (List Step))) (store : List (Option blossoms.Node)) (tree : Grown) (watched : Watched) : Type 0 where
+pub record HasOpened (w : SearchValue) (name above below : ℕ) (links : List (Option (List Step)))
+    (store : List (Option blossoms.Node)) (tree : Grown) (watched : Watched) : Type 0 where
   pub taken_off : TakesOff w.part.store store name
   pub grown : IsOpened w.tree name (way_on (round_in w.part name above below) below) tree
   pub forgets : Forgets (links_left (round_in w.part name above below) below) w.part.links links

@@ -1,4 +1,4 @@
--- A node that a tree of several meets is matched, beside all trees.
+-- A node that a tree of several meets is listed as matched or unmatched, beside all trees.
 use Rattle.std.proofs.Common.{ℕ, ◌≡◌, ◌==◌, ◌⊎◌, inl, inr, true, List, [], ◌∷◌, ◌++◌, Some, sym, ap, ◌∙◌}
 use Rattle.std.proofs.lemmas.Bool.{both_ways, eq-eqb, false≢true, or_cases}
 use Rattle.std.proofs.lemmas.List.Folds.{list_any_at}
@@ -10,12 +10,12 @@ use Rattle.fb_graph.proofs.Sets.{is_in-cases, is_in-head, is_in-tail}
 use Rattle.fb_laws.specs.TreeCycles.{nodes_along}
 use Rattle.fb_laws.specs.Trees.{EntryOf, minus_names, plus_names}
 use Rattle.fb_laws.proofs.SearchTrees.{cover_place}
-use Rattle.fb_half.specs.Matchings.{listed_names, matched_names}
+use Rattle.fb_half.specs.Matchings.{listed_names}
 use Rattle.fb_trees.specs.Branches.{Grown}
 use Rattle.fb_trees.specs.Forests.{all_minus, all_plus, trees_in}
 use Rattle.fb_search.specs.InternalGrowing.{GrowingValue, IsGrowing, all_along, roles_among}
 use Rattle.fb_search.specs.InternalTreeMeetings.{MeetsOutside}
-use Rattle.fb_search.proofs.GrowingRoles.{roles_are_all, unmatched_plus}
+use Rattle.fb_search.proofs.GrowingRoles.{roles_are_all}
 
 -- a node of a branch is plus or minus
 along_tree : (root : ℕ) (es : List (EntryOf ℕ)) (n : ℕ) → is_in (nodes_along es) n ≡ true
@@ -70,8 +70,8 @@ module _ (w : GrowingValue) (are : IsGrowing w) where
       let (i, less, named, outer, within) = cover_place w.part.nodes v name over in
       (list_any_at (λ n. n.name == name) w.part.nodes i no_node less (eq-eqb _ _ named), outer)
 
-  pub outside_matched : (k plus other : ℕ) → MeetsOutside w k plus other → is_in (matched_names w.part.matching.matches) other ≡ true
-  outside_matched k plus other meets =
+  pub outside_listed : (k plus other : ℕ) → MeetsOutside w k plus other → is_in (listed_names w.part.matching) other ≡ true
+  outside_listed k plus other meets =
       let (live, outer) = held_live meets.outer other meets.obstacle.covered in
       by
       (or_cases (is_in (listed_names w.part.matching) other) (is_in (all_along (trees_in w.forest)) other)
@@ -91,15 +91,7 @@ module _ (w : GrowingValue) (are : IsGrowing w) where
       no_role (inl plus) = no_plus plus
       no_role (inr minus) = no_minus minus
 
-      listed : (is_in w.part.matching.unmatched other ≡ true) ⊎ (is_in (matched_names w.part.matching.matches) other ≡ true)
-          → is_in (matched_names w.part.matching.matches) other ≡ true
-      listed (inl alone) = absurd (no_plus (unmatched_plus w are.state.0 are.state.1 other alone).1)
-      listed (inr matched) = matched
-
       by : (is_in (listed_names w.part.matching) other ≡ true) ⊎ (is_in (all_along (trees_in w.forest)) other ≡ true)
-          → is_in (matched_names w.part.matching.matches) other ≡ true
-      by (inl h) =
-          listed
-          (or_cases (is_in w.part.matching.unmatched other) (is_in (matched_names w.part.matching.matches) other)
-          (sym (is_in-append w.part.matching.unmatched (matched_names w.part.matching.matches) other) ∙ h))
+          → is_in (listed_names w.part.matching) other ≡ true
+      by (inl h) = h
       by (inr h) = absurd (no_role (along_roles (trees_in w.forest) other h))

@@ -1,5 +1,5 @@
--- A search whose nodes have other layers over the same defects keeps what every search keeps.
-use Rattle.std.proofs.Common.{ℕ, ◌≡◌, inl, inr, true, List, [], ◌∷◌, ◌++◌, map, All, Option, Some, None, refl, sym, ap, ◌∙◌, subst, if◌then◌else◌}
+-- What stays where nodes have other layers over the same defects: the matching, the cycles, and which nodes are outer.
+use Rattle.std.proofs.Common.{ℕ, ◌≡◌, inl, inr, true, List, [], ◌∷◌, ◌++◌, map, All, Option, Some, None, refl, sym, ap, ◌∙◌, if◌then◌else◌}
 use Rattle.std.proofs.lemmas.List.Elements.{All-cons, All-head, All-map, All-nil, All-tail, All-weaker}
 use Rattle.fb_graph.specs.Problem.{Problem}
 use Rattle.fb_graph.specs.Laws.{Link}
@@ -12,20 +12,11 @@ use Rattle.fb_blossoms.specs.Nodes.{defects_at}
 use Rattle.fb_blossoms.specs.Nodes as blossoms
 use Rattle.fb_links.specs.declared.walk.Step.{Step}
 use Rattle.fb_laws.specs.Opening.{EndAtDefects, EndsAtDefects}
-use Rattle.fb_laws.specs.PartStates.{IsSearchState}
 use Rattle.fb_laws.specs.Searches.{LeavesNode}
-use Rattle.fb_laws.specs.Trees.{paired_links}
-use Rattle.fb_laws.specs.LinkNumbers.{tree_links}
 use Rattle.fb_half.specs.Matchings.{IsMatchOf, IsMatchingOf, MatchingValue, match_links}
-use Rattle.fb_half.specs.Parts.{AreAgreed, AreLinksOf}
+use Rattle.fb_half.specs.Parts.{AreAgreed}
 use Rattle.fb_half.specs.Translations.{children_at, link_by, ring_at, ring_links}
 use Rattle.fb_half.specs.declared.matches.Match.{Match}
-use Rattle.fb_laws.specs.StateMoves.{relayered_state}
-use Rattle.fb_laws.specs.TreeCycles.{nodes_along}
-use Rattle.fb_obstacles.specs.Obstacles.{AreMinusBounded, IsWatched, slack_at}
-use Rattle.fb_obstacles.specs.Watched.{AreBounded, Watched}
-use Rattle.fb_search.specs.InternalSearching.{IsSearching, SearchValue, problem_of, roles_in, state_at}
-use Rattle.fb_graph.proofs.Nodes.{All-right}
 use Rattle.fb_laws.proofs.LayeredSearches.{cover_kept, connects_kept}
 
 module _ (f : Node → Node) (nodes : List Node) (kept : AreKept f nodes) where
@@ -99,37 +90,4 @@ matching_relayered p f nodes links m outside kept alike dual at are = record {
   all = λ x live outer.
       are.all x (sym (live_kept f nodes kept x) ∙ live) (sym (outer_kept f nodes kept x) ∙ outer);
   connects = matches_kept p nodes (map f nodes) alike dual links m.matches at are.connects;
-}
-
--- the search with its nodes in other layers, and with other edges watched
-abbrev pub relayered_by : (Node → Node) → Watched → SearchValue → SearchValue
-relayered_by f watched w = record w { part = record w.part { nodes = map f w.part.nodes }; watched = watched }
-
-pub searching_relayered : (w : SearchValue) (f : Node → Node) (watched : Watched) (are : IsSearching w)
-    → AreKept f w.part.nodes → AreAlike w.part.nodes (map f w.part.nodes)
-    → IsSearchState (problem_of w) (relayered_state (map f w.part.nodes) (state_at w are.state.0))
-    → watched.edge_count ≡ w.watched.edge_count
-    → IsWatched (problem_of w) (roles_in w) (map f w.part.nodes) watched.edges
-    → AreBounded (slack_at (problem_of w) (roles_in w) (map f w.part.nodes)) watched
-    → AreMinusBounded (roles_in w) (map f w.part.nodes) watched
-    → IsSearching (relayered_by f watched w)
-searching_relayered w f watched are kept alike state room watch bounds minus = record {
-  job = are.job;
-  slot = are.slot;
-  node = are.node;
-  state = (are.state.0, state);
-  agreed = agreed_relayered f w.part.nodes kept w.part.store are.agreed;
-  links =
-      subst (λ rings. AreLinksOf (problem_of w) w.part.links (tree_links w.tree.branches ++ (match_links w.part.matching.matches ++ rings)))
-      (sym (ring_relayered f w.part.nodes kept w.part.store)) are.links;
-  matching =
-      matching_relayered (problem_of w) f w.part.nodes w.part.links w.part.matching (nodes_along w.tree.branches) kept alike
-      are.state.1.search.nest.dual
-      (All-right (EndsAtDefects (problem_of w) (leaves w.part.nodes)) (paired_links (state_at w are.state.0).tree) (state_at w are.state.0).rest
-      are.state.1.search.search.matching.links_are.at_defects)
-      are.matching;
-  room = room ∙ are.room;
-  watch = watch;
-  bounds = bounds;
-  minus = minus;
 }

@@ -1,16 +1,17 @@
 -- A tree among others that meets a node which was matched to the boundary: the other trees are growing trees still.
-use Rattle.std.proofs.Common.{ℕ, ◌≡◌, ◌<◌, true, false, All, List, [], ◌∷◌, ◌++◌, map, length, Option, None, is_some, refl, sym, ap, subst, ◌∙◌, append_assoc, option_to_list}
+use Rattle.std.proofs.Common.{ℕ, ◌≡◌, ◌<◌, true, false, All, List, [], ◌∷◌, ◌++◌, map, Option, None, is_some, refl, sym, ap, subst, ◌∙◌, append_assoc, option_to_list}
 use Rattle.std.specs.List.Sorted.{IsPermutation}
 use Rattle.std.proofs.lemmas.Bool.{both_ways}
 use Rattle.std.proofs.lemmas.List.{map-append}
 use Rattle.std.proofs.lemmas.List.Elements.{All-head, All-tail}
-use Rattle.std.proofs.lemmas.List.Sorted.{All-permutation, IsPermutation-append_left, IsPermutation-append_right, IsPermutation-cons, IsPermutation-map, IsPermutation-middle, IsPermutation-sym, IsPermutation-trans, length_permutation}
+use Rattle.std.proofs.lemmas.List.Sorted.{All-permutation, IsPermutation-append_left, IsPermutation-append_right, IsPermutation-cons, IsPermutation-map, IsPermutation-middle, IsPermutation-sym, IsPermutation-trans}
 use Rattle.fb_graph.specs.Certificate.{AreDistinct}
 use Rattle.fb_graph.specs.Parity.{is_in}
 use Rattle.fb_graph.proofs.Among.{IsAmong, All_among, among_All, among_left}
 use Rattle.fb_graph.proofs.Floods.{is_in-left}
 use Rattle.fb_graph.proofs.Sets.{All-from_is_in, is_in-All}
 use Rattle.fb_laws.specs.ForestMoves.{IsFewer, ended_forest}
+use Rattle.fb_laws.specs.Forests.{AnyTree}
 use Rattle.fb_laws.specs.ForestStates.{IsForestState, among_trees, with_trees}
 use Rattle.fb_laws.specs.LinkNumbers.{links_dropped}
 use Rattle.fb_laws.specs.StateMoves.{ended_state}
@@ -33,24 +34,25 @@ use Rattle.fb_half.specs.Seams.{AreListed}
 use Rattle.fb_half.specs.Translations.{cycles_by, link_by, link_of, ring_links}
 use Rattle.fb_half.proofs.FreedMatches.{link_in}
 use Rattle.fb_obstacles.specs.Watched.{Watched}
-use Rattle.fb_search.specs.declared.attaching.Met.{Met}
+use Rattle.fb_search.specs.declared.growing_meets.Met.{Met}
 use Rattle.fb_search.specs.InternalEndings.{ended_matches}
-use Rattle.fb_search.specs.InternalGrowing.{GrowingValue, IsGrowing, forest_links, grown_ids, tree_by}
+use Rattle.fb_search.specs.InternalGrowing.{GrowingValue, IsGrowing, forest_links, grown_ids, tree_by, waiting_in}
 use Rattle.fb_search.specs.InternalGrowth.{GrowsOn}
 use Rattle.fb_search.specs.InternalGrowingEnds.{IsTreeMatched, MayMatchTree, WatchesEach}
 use Rattle.fb_search.specs.InternalMeetings.{IsBoundaryMatch}
 use Rattle.fb_search.specs.InternalTreeMeetings.{HasMetTree, rematched_growing}
-use Rattle.fb_search.proofs.DissolvedForests.{IsLeft, state_left, stays_by}
-use Rattle.fb_search.proofs.DissolvedGrowth.{apart_one, counted_one, growing_left, grows_left, lead_one, left_growth, listed_one, rest_one, root_unmatched, state_of_one}
+use Rattle.fb_search.proofs.DissolvedForests.{IsLeft, state_left, stays_by, waits_left}
+use Rattle.fb_search.proofs.DissolvedGrowth.{AreGone, apart_one, counted_one, gone_one, growing_left, grows_left, lead_one, left_growth, listed_one, rest_one, root_unmatched, state_of_one}
 use Rattle.fb_search.proofs.DroppedLinks.{dropped_live, dropped_once}
 use Rattle.fb_search.proofs.EndSteps.{distinct_before, fresh_last}
 use Rattle.fb_search.proofs.EndedMatches.{AreTaken, LeadsBy}
 use Rattle.fb_search.proofs.EndedWays.{met_match}
 use Rattle.fb_search.proofs.ForestPlaces.{after_by, before_by, own_state, trees_after, trees_before, trees_beside, trees_without}
-use Rattle.fb_search.proofs.GrownEnds.{minus_before, plus_before}
 use Rattle.fb_search.proofs.ListedSteps.{listed_ended, made_stays, paired_listed}
 use Rattle.fb_search.proofs.ReleasedMatches.{forgets_more}
 use Rattle.fb_search.proofs.TakenNames.{without_taken}
+use Rattle.fb_search.proofs.TreesBeside.{minus_beside, minus_parted, plus_beside}
+use Rattle.fb_search.proofs.WaitingStates.{waiting_among}
 use Rattle.fb_half.proofs.FlatPermutations.{flat_permuted}
 
 module _ (w : GrowingValue) (met : Met) (links : Table) (kept : List Match)
@@ -176,11 +178,11 @@ module _ (w : GrowingValue) (met : Met) (links : Table) (kept : List Match)
         leads = h.walk_is.connects;
       }
 
-      law : IsFewer (problem_in w.part) (among_trees (before_by w t) (after_by w t) (own_state w g are.state.0))
-          (ended_forest (before_by w t) (after_by w t) met.plus (link_of h.walk) (map (link_by w.part.links) (match_links kept))
+      law : IsFewer (problem_in w.part) (among_trees (before_by w t) (after_by w t) (waiting_in w) (own_state w g are.state.0))
+          (ended_forest (before_by w t) (after_by w t) (waiting_in w) met.plus (link_of h.walk) (map (link_by w.part.links) (match_links kept))
           (own_state w g are.state.0))
       law =
-          forest_state_released (problem_in w.part) (before_by w t) (after_by w t) (own_state w g are.state.0) met.plus met.other
+          forest_state_released (problem_in w.part) (before_by w t) (after_by w t) (waiting_in w) (own_state w g are.state.0) met.plus met.other
           (link_of h.walk) (link_by w.part.links met.taken.link) (map (link_by w.part.links) (match_links kept)) away.0
           (record {
             plus = ap (λ l. is_in l met.plus) (plus_moved (link_by w.part.links) g.root g.branches) ∙ h.plus.plus;
@@ -193,6 +195,16 @@ module _ (w : GrowingValue) (met : Met) (links : Table) (kept : List Match)
       moved : IsPermutation (names_without g.root w.part.matching.unmatched) m.unmatched
       moved = without_taken g.root w.part.matching.unmatched m.unmatched are.state.1.names.distinct done.unmatched
 
+      abbrev told_of : List AnyTree → Type 0
+      told_of ts =
+          IsForestState (problem_in w.part)
+          (with_trees ts (waiting_in w) are.state.0
+          (ended_state met.plus (link_of h.walk) (map (link_by w.part.links) (match_links kept))
+          (names_without g.root w.part.matching.unmatched) (own_state w g are.state.0)))
+
+      told : told_of (map (tree_by w.part.links) (trees_beside w.forest t))
+      told = subst told_of (sym (map-append (tree_by w.part.links) (trees_before w.forest t) (trees_after w.forest t))) law.state
+
       state : IsForestState (problem_in w.part)
           (record {
             nodes = w.part.nodes;
@@ -200,17 +212,19 @@ module _ (w : GrowingValue) (met : Met) (links : Table) (kept : List Match)
             trees = map (tree_by new) (trees_beside w.forest t);
             rest = map (link_by new) (match_links (kept ++ (ends ++ out ∷ [])));
             unmatched = m.unmatched;
+            waiting = waiting_among (trees_beside w.forest t) m.unmatched;
             parity = are.state.0;
           })
       state =
           state_left w (trees_beside w.forest t) new m.unmatched kept ends out are is_left
-          _ (names_without g.root w.part.matching.unmatched) are.state.0
-          (rest_one w t g met.plus are h.plus.at h.plus.plus kept (link_of h.walk)) moved
-          (subst (λ ts. IsForestState (problem_in w.part) (with_trees ts are.state.0 (ended_state met.plus (link_of h.walk) (map (link_by w.part.links) (match_links kept)) (names_without g.root w.part.matching.unmatched) (own_state w g are.state.0))))
-          (sym (map-append (tree_by w.part.links) (trees_before w.forest t) (trees_after w.forest t))) law.state)
+          _ (names_without g.root w.part.matching.unmatched) (waiting_in w) are.state.0
+          (rest_one w t g met.plus are h.plus.at h.plus.plus kept (link_of h.walk)) moved told
 
-      fewer : length m.unmatched < length w.part.matching.unmatched
-      fewer = subst (λ n. n < length w.part.matching.unmatched) (sym (length_permutation _ _ moved)) law.fewer
+      ended : AreGone w (trees_beside w.forest t) m.unmatched
+      ended =
+          gone_one w t g met.plus are h.plus.at h.plus.plus m.unmatched done.unmatched
+          (waits_left w (trees_beside w.forest t) new m.unmatched kept ends out are is_left
+          _ (names_without g.root w.part.matching.unmatched) (waiting_in w) are.state.0 moved told)
 
       gone : trees_in forest ≡ trees_beside w.forest t
       gone = ap trees_in done.dissolved ∙ trees_without w.forest t g h.plus.at
@@ -225,11 +239,12 @@ module _ (w : GrowingValue) (met : Met) (links : Table) (kept : List Match)
       release_left last is_last watched watches within =
           subst (λ n. IsGrowing (left_growth w new n forest watched) × GrowsOn w (left_growth w new n forest watched)) (sym listed) (
             growing_left w (trees_beside w.forest t) new m.unmatched kept ends out are is_left forest gone watched
-                (minus_names g.branches) (plus_before w t g met.plus are h.plus.at h.plus.plus)
-                (minus_before w t g met.plus are h.plus.at h.plus.plus) watches within are.state.0 state,
+                (minus_names g.branches) (plus_beside w.forest t g h.plus.at)
+                (minus_parted w.forest t g h.plus.at) watches within
+                (minus_beside w.forest t g h.plus.at) are.state.0 state,
             grows_left w (trees_beside w.forest t) new m.unmatched kept ends out are is_left forest gone watched
-                (minus_names g.branches) (plus_before w t g met.plus are h.plus.at h.plus.plus)
-                (minus_before w t g met.plus are h.plus.at h.plus.plus) watches within fewer,
+                (minus_names g.branches) (plus_beside w.forest t g h.plus.at)
+                (minus_parted w.forest t g h.plus.at) watches within ended,
           )
         where
           listed : last ≡ record { matches = kept ++ (ends ++ out ∷ []); unmatched = m.unmatched }

@@ -19,7 +19,7 @@ use Rattle.fb_half.specs.Parts.{AreLinksOf, AreStepsOf, problem_in}
 use Rattle.fb_half.specs.Translations.{cycles_by, link_by, link_of, ring_at, ring_links}
 use Rattle.fb_trees.specs.Branches.{Grown}
 use Rattle.fb_trees.specs.Forests.{trees_in}
-use Rattle.fb_search.specs.InternalGrowing.{GrowingValue, IsGrowing, IsGrowingBeside, forest_links, forest_state_at, grown_ids, tree_by}
+use Rattle.fb_search.specs.InternalGrowing.{GrowingValue, IsGrowing, IsGrowingBeside, forest_links, forest_state_at, grown_ids, tree_by, waiting_in}
 use Rattle.fb_search.proofs.EndedMatches.{leads_still}
 use Rattle.fb_search.proofs.EndedParts.{map_same, ring_within}
 use Rattle.fb_search.proofs.Linked.{links_made}
@@ -54,6 +54,7 @@ state_with w new parity trees rest = record {
   trees = trees;
   rest = rest;
   unmatched = w.part.matching.unmatched;
+  waiting = waiting_in w;
   parity = parity;
 }
 
@@ -81,6 +82,7 @@ growing_relinked w some more new are stays links = record {
   room = are.room;
   watch = are.watch;
   bounds = are.bounds;
+  minus = are.minus;
 }
   where
     p : Problem
@@ -111,11 +113,11 @@ growing_relinked w some more new are stays links = record {
     state =
         subst (λ ts. IsForestState p (state_with w new are.state.0 ts (map (link_by new) matches))) (sym same_trees)
         (subst (λ rest. IsForestState p (state_with w new are.state.0 (map (tree_by w.part.links) (trees_in w.forest)) rest)) (sym same_rest)
-        (forest_state_relisted p (forest_state_at w are.state.0) (cycles_by new w.part.store) w.part.matching.unmatched
+        (forest_state_relisted p (forest_state_at w are.state.0) (cycles_by new w.part.store) w.part.matching.unmatched (waiting_in w)
         (λ n live.
         map_same (link_by new) (link_by w.part.links) (ring_at w.part.store n)
         (λ id h. by id (in_kept id (is_in-right matches rings id (ring_within w.part.nodes w.part.store n live id h)))))
-        are.state.1.names.distinct (λ n. refl) are.state.1))
+        are.state.1.names.distinct (λ n. refl) are.state.1.waiting (λ n. refl) are.state.1))
 
 -- A link along edges of the problem is made.
 pub growing_linked : (w : GrowingValue) (id : ℕ) (walk : List Step) (new : Table) → IsGrowing w → Adds w.part.links new id walk

@@ -22,7 +22,7 @@ use Rattle.fb_half.specs.Parts.{kept_links, problem_in}
 use Rattle.fb_half.specs.Translations.{link_by}
 use Rattle.fb_trees.specs.Branches.{Grown}
 use Rattle.fb_trees.specs.Forests.{IsInside, IsOutside, IsTreeOf, MayReplaceIn, first_name, tree_at, trees_in}
-use Rattle.fb_search.specs.InternalGrowing.{GrowingValue, all_along, forest_state_at, grown_ids}
+use Rattle.fb_search.specs.InternalGrowing.{GrowingValue, all_along, forest_state_at, grown_ids, waiting_in}
 use Rattle.fb_search.specs.InternalGrowingRings.{ClosesIn}
 use Rattle.fb_search.proofs.Agreed.{nodes_of}
 use Rattle.fb_search.proofs.ClosedCycles.{ClosesTree, may_close, steps_join, steps_replaced}
@@ -38,7 +38,8 @@ pub live_in : (w : GrowingValue) (r : ℕ) → IsForestState (problem_in w.part)
 live_in w r state t g at n within =
     by (named_set (problem_in w.part) w.part.nodes own.tree
     (forest_paired (before_by w t ++ after_by w t) ++ own.rest) w.part.matching.unmatched g.root r
-    (forest_tree (problem_in w.part) w.part.nodes (before_by w t) (after_by w t) (tree_of own) own.rest w.part.matching.unmatched r
+    (forest_tree (problem_in w.part) w.part.nodes (before_by w t) (after_by w t) (tree_of own) own.rest w.part.matching.unmatched
+    (waiting_in w) r
     (subst (IsForestState (problem_in w.part)) (state_among w t g r at) state).forest)
     n (ap (λ ns. is_in ns n) (names_moved (link_by w.part.links) g.root g.branches) ∙ within))
   where
@@ -64,7 +65,7 @@ module _ (w : GrowingValue) (a b closing : ℕ) (closes : ClosesIn w a b closing
 
   -- the tree among the others
   pub ring_among : IsForestState (problem_in w.part)
-      (among_trees (before_by w closes.tree) (after_by w closes.tree) (own_state w closes.grown closes.growing.state.0))
+      (among_trees (before_by w closes.tree) (after_by w closes.tree) (waiting_in w) (own_state w closes.grown closes.growing.state.0))
   ring_among =
       subst (IsForestState (problem_in w.part)) (state_among w closes.tree g parity closes.at) closes.growing.state.1
 
@@ -90,7 +91,7 @@ module _ (w : GrowingValue) (a b closing : ℕ) (closes : ClosesIn w a b closing
     search =
         forest_tree (problem_in w.part) w.part.nodes (before_by w closes.tree) (after_by w closes.tree)
         (tree_of (own_state w g parity)) (map (link_by w.part.links) (match_links w.part.matching.matches))
-        w.part.matching.unmatched parity ring_among.forest;
+        w.part.matching.unmatched (waiting_in w) parity ring_among.forest;
     agreed = closes.growing.agreed;
     live = live;
     listed = λ n there.
@@ -107,7 +108,8 @@ module _ (w : GrowingValue) (a b closing : ℕ) (closes : ClosesIn w a b closing
     steps_within : (n : ℕ) → is_in (nodes_of steps) n ≡ true → is_node closes.grown n ≡ true
     steps_within n on =
         cycle_within (problem_in w.part) (own_state w g parity) w.part.links g.branches refl name a b closing is.shared is.up is.down
-        (may_close w.part g parity a b closing ring_closes name (own_state w g parity).rest fresh) is.paths ring_closes.rest ring_closes.nest ring_closes.search n
+        (may_close w.part g parity a b closing ring_closes name (own_state w g parity).rest fresh) is.paths ring_closes.rest ring_closes.nest
+        ring_closes.search n
         (ap (λ ns. is_in ns n) (sym is.nodes) ∙ on)
 
     module _ (gone : List ℕ) (same : gone ≡ nodes_of steps) where

@@ -1,5 +1,5 @@
 -- A minus blossom of one of several trees that is opened keeps what is kept while trees grow, and leaves less to do.
-use Rattle.std.proofs.Common.{ℕ, ◌≡◌, ◌≢◌, ◌<◌, ◌⊎◌, inl, inr, true, false, List, [], ◌∷◌, ◌++◌, map, set, length, All, Option, Some, refl, sym, ap, ◌∙◌, subst, append_assoc, le_refl}
+use Rattle.std.proofs.Common.{ℕ, ◌≡◌, ◌≢◌, ◌⊎◌, inl, inr, true, false, List, [], ◌∷◌, ◌++◌, map, set, length, All, Option, Some, refl, sym, ap, ◌∙◌, subst, append_assoc, le_refl, arith}
 use Rattle.std.specs.List.Sorted.{IsPermutation}
 use Rattle.std.proofs.lemmas.Bool.{both_ways, false_from_ne_true}
 use Rattle.std.proofs.lemmas.List.{map-append}
@@ -8,9 +8,8 @@ use Rattle.std.proofs.lemmas.List.Elements.{All-append, All-cons, All-nil}
 use Rattle.std.proofs.lemmas.List.Sorted.{IsPermutation-append_comm, IsPermutation-append_left, IsPermutation-append_right, IsPermutation-map, IsPermutation-refl, IsPermutation-sym, IsPermutation-trans}
 use Rattle.fb_graph.specs.Parity.{is_in}
 use Rattle.fb_graph.specs.Certificate.{AreDistinct}
-use Rattle.fb_graph.specs.Dual.{is_outer, top_at}
+use Rattle.fb_graph.specs.Dual.{is_live, is_outer, top_at}
 use Rattle.fb_graph.proofs.Members.{distinct_left}
-use Rattle.fb_graph.specs.Laws.{Link}
 use Rattle.fb_graph.specs.Limits.{IsWithinLimits}
 use Rattle.fb_graph.specs.Moves.{split_nodes}
 use Rattle.fb_graph.specs.Steps.{Roles}
@@ -22,17 +21,16 @@ use Rattle.fb_links.specs.declared.cycle.CycleStep.{CycleStep}
 use Rattle.fb_links.proofs.MovedLinks.{Table}
 use Rattle.fb_blossoms.specs.Nodes.{cycle_of}
 use Rattle.fb_blossoms.specs.Nodes as blossoms
-use Rattle.fb_laws.specs.Forests.{AnyTree, forest_roles}
-use Rattle.fb_laws.specs.ForestStates.{ForestState, IsForestState, among_trees, tree_of}
+use Rattle.fb_laws.specs.Forests.{forest_roles}
+use Rattle.fb_laws.specs.ForestStates.{IsForestState, among_trees, tree_of}
 use Rattle.fb_laws.specs.LinkNumbers.{tree_links}
 use Rattle.fb_laws.specs.Measures.{IsLower}
-use Rattle.fb_laws.specs.OpenedCycles.{opened_tree}
 use Rattle.fb_laws.specs.PartStates.{SearchState}
 use Rattle.fb_laws.specs.SearchLayers.{left_to_do}
 use Rattle.fb_laws.specs.StateOpenings.{opened_state}
 use Rattle.fb_laws.specs.StateOrders.{AgreeAt}
 use Rattle.fb_laws.specs.TreeCycles.{nodes_along}
-use Rattle.fb_laws.specs.Trees.{Entry, EntryOf, minus_names, plus_names}
+use Rattle.fb_laws.specs.Trees.{EntryOf, minus_names, plus_names}
 use Rattle.fb_laws.proofs.ForestMeasures.{forest_opened_less}
 use Rattle.fb_laws.proofs.ForestOpenings.{forest_state_opened}
 use Rattle.fb_laws.proofs.OpenedBlossoms.{distinct_permuted, same_permuted}
@@ -42,29 +40,33 @@ use Rattle.fb_laws.proofs.ForestParts.{forest_state_permuted, forest_state_relis
 use Rattle.fb_half.specs.declared.matches.Match.{Match}
 use Rattle.fb_half.specs.declared.seams.Seams.{Seams}
 use Rattle.fb_half.specs.Seams.{AreListed, IsListed}
-use Rattle.fb_half.specs.Matchings.{IsMatchingOf, MatchingValue, listed_names, match_links, matched_names, names_of}
+use Rattle.fb_half.specs.Matchings.{IsMatchingOf, listed_names, match_links, matched_names, names_of}
 use Rattle.fb_half.specs.Parts.{AreLinksOf, problem_in}
 use Rattle.fb_half.specs.Translations.{cycles_by, entry_by, link_by, ring_at, ring_links}
+use Rattle.fb_regions.specs.declared.roles.Role.TheVariants.{Minus}
 use Rattle.fb_trees.specs.Branches.{Grown}
 use Rattle.fb_trees.specs.Forests.{IsOutside, MayReplaceIn, all_minus, all_plus, all_roles, role_among, tree_at, trees_in}
 use Rattle.fb_trees.specs.Replacements.{way_of}
 use Rattle.fb_trees.specs.Rooted.{is_node}
+use Rattle.fb_trees.proofs.ForestsCounted.{as_many}
 use Rattle.fb_trees.proofs.Mapped.{names_moved, opened_moved}
 use Rattle.fb_trees.proofs.Names.{minus_in_names}
-use Rattle.fb_obstacles.specs.Obstacles.{grows, shrinks}
-use Rattle.fb_obstacles.specs.Watched.{Watched}
+use Rattle.fb_obstacles.specs.Obstacles.{IsWatched, grows, shrinks, slack_at}
+use Rattle.fb_obstacles.specs.Watched.{AreBounded, Watched}
 use Rattle.fb_search.specs.InternalEndings.{beside_match}
-use Rattle.fb_search.specs.InternalGrowing.{GrowingValue, IsGrowing, all_along, forest_state_at, grown_ids, tree_by}
+use Rattle.fb_search.specs.InternalGrowing.{GrowingValue, IsGrowing, all_along, forest_state_at, grown_ids, roles_among, tree_by, waiting_in}
 use Rattle.fb_search.specs.InternalGrowth.{GrowsOn}
-use Rattle.fb_search.specs.InternalOpenings.{couples_on}
+use Rattle.fb_search.specs.InternalOpenings.{EntersWay, couples_on}
 use Rattle.fb_search.specs.InternalSearching.{SearchValue}
 use Rattle.fb_search.proofs.Agreed.{agreed_split}
 use Rattle.fb_search.proofs.ForestPlaces.{after_by, before_by, minus_either, minus_more, own_state, plus_either, plus_more, trees_after, trees_before, trees_beside, trees_split, trees_with}
-use Rattle.fb_search.proofs.GrowingRoles.{roles_numbers}
+use Rattle.fb_search.proofs.GrowingRoles.{all_are, minus_live, roles_numbers}
+use Rattle.fb_search.proofs.KeptNodes.{named_split}
 use Rattle.fb_search.proofs.Linked.{links_reordered}
-use Rattle.fb_search.proofs.OpenedConditions.{couples_fresh, inner, rest, way, way_opens, way_within}
+use Rattle.fb_search.proofs.OpenedConditions.{couples_fresh, inner, rest, way, way_named, way_opens, way_within}
 use Rattle.fb_search.proofs.OpenedLinks.{AreSameLinks, entries_same, links_same, ring_among}
 use Rattle.fb_search.proofs.OpenedMatchings.{matching_opened, opened_listed}
+use Rattle.fb_search.proofs.OpenedMinus.{minus_reopened}
 use Rattle.fb_search.proofs.ListedSteps.{Lists, no_second}
 use Rattle.fb_search.proofs.OpenedNumbers.{branches_are, links_after, links_kept_all}
 use Rattle.fb_search.proofs.OpenedStates.{couples, law_cycle, may_split, moved, passes, tree_was}
@@ -74,6 +76,8 @@ use Rattle.fb_search.proofs.Openings.{HasOpened, IsOpening, Opens}
 use Rattle.fb_search.proofs.RingRoles.{minus_own, plus_here}
 use Rattle.fb_search.proofs.RolesAmong.{minus_among, minus_not_plus_among, plus_among, role_minus_among, role_plus_among}
 use Rattle.fb_search.proofs.TreesAlone.{IsKeptMatch, alone, alone_ids, alone_names, among_others, only_grown, opening_among, relisted, tree_matches}
+use Rattle.fb_search.proofs.WaitingApart.{waiting_no_minus}
+use Rattle.fb_search.proofs.WaitingNames.{roots_kept, waiting_distinct, waiting_same}
 
 -- trees whose links stay
 trees_kept : (old new : Table) (gs : List Grown) → AreSameLinks old new (grown_ids gs) → map (tree_by new) gs ≡ map (tree_by old) gs
@@ -213,7 +217,8 @@ module _ (w : GrowingValue) (t : ℕ) (g : Grown) (at : tree_at w.forest t ≡ S
           (nodes_along tree.branches)
       was = matching_opened It name e above below is opens links store tree watched has
 
-      names : IsPermutation (matched_names ((w.part.matching.matches ++ foreign) ++ couples_on Rest)) (matched_names (matches_now ++ foreign))
+      names : IsPermutation (matched_names ((w.part.matching.matches ++ foreign) ++ couples_on Rest))
+          (matched_names (matches_now ++ foreign))
       names =
           subst (λ l. IsPermutation l (matched_names (matches_now ++ foreign)))
           (sym
@@ -233,9 +238,9 @@ module _ (w : GrowingValue) (t : ℕ) (g : Grown) (at : tree_at w.forest t ≡ S
       (entry_by w.part.links e) above (passes It name e above below is opens) (couples It name e above below is opens)
       (own_state w g are.state.0)
 
-  state_by_law : IsForestState (problem_in w.part) (among_trees (before_by w t) (after_by w t) by_law)
+  state_by_law : IsForestState (problem_in w.part) (among_trees (before_by w t) (after_by w t) (waiting_in w) by_law)
   state_by_law =
-      forest_state_opened (problem_in w.part) (before_by w t) (after_by w t) (own_state w g are.state.0)
+      forest_state_opened (problem_in w.part) (before_by w t) (after_by w t) (waiting_in w) (own_state w g are.state.0)
       (moved It name e above below is opens opens.branch.newer) (moved It name e above below is opens opens.branch.older)
       (entry_by w.part.links e) above (passes It name e above below is opens) (couples It name e above below is opens)
       (tree_was It name e above below is opens) (may_split It name e above below is opens)
@@ -291,6 +296,11 @@ module _ (w : GrowingValue) (t : ℕ) (g : Grown) (at : tree_at w.forest t ≡ S
       ∙ ap (λ (o : Option blossoms.Node). map (link_by w.part.links) (map (λ c. c.link) (cycle_of o)))
       (has.taken_off.others n other)
 
+  -- the same nodes wait
+  waits_as_before : (n : ℕ) → is_in (waiting_in opened_growing) n ≡ is_in (waiting_in w) n
+  waits_as_before =
+      waiting_same w opened_growing (λ n. refl) (λ n. ap (λ l. is_in l n) (roots_kept w.forest t g at tree has.grown.root))
+
   state_now : IsForestState (problem_in w.part) (forest_state_at opened_growing are.state.0)
   state_now =
       subst
@@ -302,6 +312,7 @@ module _ (w : GrowingValue) (t : ℕ) (g : Grown) (at : tree_at w.forest t ≡ S
         trees = ts;
         rest = map (link_by links) (match_links matches_now);
         unmatched = w.part.matching.unmatched;
+        waiting = waiting_in opened_growing;
         parity = are.state.0;
       }))
       trees_now
@@ -312,9 +323,11 @@ module _ (w : GrowingValue) (t : ℕ) (g : Grown) (at : tree_at w.forest t ≡ S
         trees = before_by w t ++ tree_of by_law ∷ after_by w t;
         rest = map (link_by links) (match_links matches_now);
         unmatched = w.part.matching.unmatched;
+        waiting = waiting_in w;
         parity = are.state.0;
       })
-      (cycles_by links store) w.part.matching.unmatched cycles_now are.state.1.names.distinct (λ n. refl)
+      (cycles_by links store) w.part.matching.unmatched (waiting_in opened_growing) cycles_now are.state.1.names.distinct (λ n. refl)
+      (waiting_distinct opened_growing are.state.1.names.distinct) waits_as_before
       (subst
       (λ n.
       IsForestState (problem_in w.part)
@@ -324,10 +337,11 @@ module _ (w : GrowingValue) (t : ℕ) (g : Grown) (at : tree_at w.forest t ≡ S
         trees = before_by w t ++ tree_of by_law ∷ after_by w t;
         rest = map (link_by links) (match_links matches_now);
         unmatched = w.part.matching.unmatched;
+        waiting = waiting_in w;
         parity = are.state.0;
       }))
       opens.branch.minus
-      (forest_state_permuted (problem_in w.part) (among_trees (before_by w t) (after_by w t) by_law)
+      (forest_state_permuted (problem_in w.part) (among_trees (before_by w t) (after_by w t) (waiting_in w) by_law)
       (before_by w t ++ tree_of by_law ∷ after_by w t) (map (link_by links) (match_links matches_now))
       (IsPermutation-refl (before_by w t ++ tree_of by_law ∷ after_by w t)) rest_now state_by_law)))
 
@@ -357,7 +371,7 @@ module _ (w : GrowingValue) (t : ℕ) (g : Grown) (at : tree_at w.forest t ≡ S
       (left_to_do (problem_in w.part) w.part.nodes
       (forest_roles (before_by w t ++ tree_of (own_state w g are.state.0) ∷ after_by w t)) false))
       opens.branch.minus
-      (forest_opened_less (problem_in w.part) (before_by w t) (after_by w t) (own_state w g are.state.0)
+      (forest_opened_less (problem_in w.part) (before_by w t) (after_by w t) (waiting_in w) (own_state w g are.state.0)
       (moved It name e above below is opens opens.branch.newer) (moved It name e above below is opens opens.branch.older)
       (entry_by w.part.links e) above (passes It name e above below is opens) (couples It name e above below is opens) false true
       (tree_was It name e above below is opens) (may_split It name e above below is opens)
@@ -404,8 +418,18 @@ module _ (w : GrowingValue) (t : ℕ) (g : Grown) (at : tree_at w.forest t ≡ S
       both_ways (is_in (all_plus (trees_in w.forest)) n) (minus_not_plus_among w.forest n minus) (plus_then n outer plus)))
       (minus_then n other (minus_among w.forest n minus)))
 
-  module _ (minus : shrinks (role_among w.forest name) ≡ true) (limits : IsWithinLimits (problem_in w.part)) where
-    pub ring_opened : IsGrowing opened_growing
+  -- a minus node on the way is live
+  pub ring_way_live : All
+      (λ s. role_among (set w.forest t (Some tree)) s.node ≡ Minus → is_live (split_nodes name w.part.nodes) s.node ≡ true)
+      (way (alone w t g) name e above below (opening_among w t g at are) opens)
+  ring_way_live i d less minus =
+      minus_live opened_growing are.state.0 state_now _ (minus_among opened_growing.forest _ (ap shrinks minus))
+
+  -- the minus nodes on the way are watched from then on
+  module _ (minus : shrinks (role_among w.forest name) ≡ true) (limits : IsWithinLimits (problem_in w.part)) (final : Watched)
+      (enters : EntersWay (split_nodes name w.part.nodes) (role_among (set w.forest t (Some tree)))
+      (way (alone w t g) name e above below (opening_among w t g at are) opens) watched final) where
+    pub ring_opened : IsGrowing (record opened_growing { watched = final })
     ring_opened = record {
       job = are.job;
       slot = are.slot;
@@ -414,20 +438,39 @@ module _ (w : GrowingValue) (t : ℕ) (g : Grown) (at : tree_at w.forest t ≡ S
       agreed = agreed_split w.part.nodes w.part.store store name are.agreed has.taken_off;
       links = links_now;
       matching = matching_now;
-      room = has.watches.room ∙ are.room;
+      room = ap (λ x. x.edge_count) enters.same ∙ (has.watches.room ∙ are.room);
       watch =
-          watch_split It name e above below is opens links store tree watched has (role_among w.forest)
-          (role_among opened_growing.forest) plus_before minus_still minus limits are.room are.watch;
+          subst (IsWatched (problem_in w.part) (roles_among opened_growing.forest) (split_nodes name w.part.nodes))
+          (sym (ap (λ x. x.edges) enters.same))
+          (watch_split It name e above below is opens links store tree watched has (role_among w.forest)
+          (role_among opened_growing.forest) plus_before minus_still minus limits are.room are.watch);
       bounds =
-          bounded_split It name e above below is opens links store tree watched has (role_among w.forest)
-          (role_among opened_growing.forest) plus_before minus_still minus are.bounds;
+          subst (AreBounded (slack_at (problem_in w.part) (roles_among opened_growing.forest) (split_nodes name w.part.nodes)))
+          (sym enters.same)
+          (bounded_split It name e above below is opens links store tree watched has (role_among w.forest)
+          (role_among opened_growing.forest) plus_before minus_still minus are.bounds);
+      minus =
+          minus_reopened w.forest t g tree at (all_are w are.state.0 are.state.1).exclusive opens.branch.newer e opens.branch.older
+          above Way opens.branch.there (branches_are It name e above below is opens links store tree watched has)
+          (way_named It name e above below is opens) name w.part.nodes w.watched watched final state_now.nest.dual.names
+          has.watches.minus enters are.minus;
     }
 
-    pub ring_goes_on : GrowsOn w opened_growing
+    pub ring_goes_on : GrowsOn w (record opened_growing { watched = final })
     ring_goes_on = record {
-      part = record { job = refl; slot = refl; node = refl };
+      grown = record {
+        part = record { job = refl; slot = refl; node = refl };
+        waits = λ n waits. sym (waits_as_before n) ∙ waits;
+        kept = λ n waits.
+            named_split name n (waiting_no_minus [] w are n (sym (waits_as_before n) ∙ waits) name minus) w.part.nodes;
+        least = omega (arith, trees);
+        most = omega (arith, trees);
+      };
       less = inr (le_refl (length w.part.matching.unmatched), less_now);
     }
+      where
+        trees : length (trees_in (set w.forest t (Some tree))) ≡ length (trees_in w.forest)
+        trees = as_many w.forest t g tree at
 
 -- the couples are listed nowhere yet
 pub ring_couples : (w : GrowingValue) (t : ℕ) (g : Grown) (at : tree_at w.forest t ≡ Some g) (are : IsGrowing w) (name : ℕ)

@@ -1,6 +1,5 @@
 -- A tight edge between two plus nodes of one of several trees: the link that is made over it closes a cycle.
-use Rattle.std.proofs.Common.{ℕ, ◌≡◌, ◌≢◌, true, List, [], ◌∷◌, Option, Some, unwrap_or, sym, ap, ◌∙◌, subst}
-use Rattle.fb_graph.specs.Dual.{cover_of}
+use Rattle.std.proofs.Common.{ℕ, ◌≡◌, ◌≢◌, List, [], ◌∷◌, Option, Some, unwrap_or, sym, ap, ◌∙◌, subst}
 use Rattle.fb_graph.proofs.Floods.{is_in-left, is_in-right}
 use Rattle.fb_laws.specs.Trees.{Connects}
 use Rattle.fb_laws.specs.Works.{AreMatchedLinks}
@@ -72,6 +71,12 @@ ring_listed w s new link walk are adds listed =
 pub grows_on_relinked : (w after : GrowingValue) (new : List (Option (List Step))) → GrowsOn (relinked_growing new w) after
     → GrowsOn w after
 grows_on_relinked w after new on = record {
-  part = record { job = on.part.job; slot = on.part.slot; node = on.part.node };
+  grown = record {
+    part = record { job = on.grown.part.job; slot = on.grown.part.slot; node = on.grown.part.node };
+    waits = on.grown.waits;
+    kept = on.grown.kept;
+    least = on.grown.least;
+    most = on.grown.most;
+  };
   less = on.less;
 }

@@ -1,10 +1,9 @@
 -- The branch of a minus node of one of several trees, which has shrunk to its defect: its joined links close a cycle.
 use Rattle.std.proofs.Common.{ℕ, ◌≡◌, true, List, [], ◌∷◌, ◌++◌, map, Option, Some, unwrap_or, sym, ap, ◌∙◌, subst}
 use Rattle.fb_graph.proofs.Floods.{is_in-left}
-use Rattle.fb_graph.specs.Parity.{is_in}
 use Rattle.fb_laws.specs.Forests.{forest_paired}
 use Rattle.fb_laws.specs.ForestStates.{IsForestState, tree_of}
-use Rattle.fb_laws.specs.Trees.{Connects, EntryOf, minus_names}
+use Rattle.fb_laws.specs.Trees.{Connects, EntryOf}
 use Rattle.fb_laws.specs.Works.{AreMatchedLinks}
 use Rattle.fb_laws.proofs.ForestStates.{forest_tree}
 use Rattle.fb_laws.proofs.SearchTrees.{connects_sym}
@@ -19,7 +18,7 @@ use Rattle.fb_obstacles.specs.Obstacles.{IsZeroDefect, shrinks}
 use Rattle.fb_trees.specs.Branches.{Grown}
 use Rattle.fb_trees.specs.Forests.{IsMinusNode, IsTreeOf, role_among, tree_at, trees_in}
 use Rattle.fb_trees.specs.Rooted.{IsBranchAt}
-use Rattle.fb_search.specs.InternalGrowing.{GrowingValue, IsGrowing, grown_ids}
+use Rattle.fb_search.specs.InternalGrowing.{GrowingValue, IsGrowing, grown_ids, waiting_in}
 use Rattle.fb_search.specs.InternalGrowingRings.{ClosesIn}
 use Rattle.fb_search.proofs.ForestPlaces.{after_by, before_by, own_state, state_among}
 use Rattle.fb_search.proofs.RelinkedForests.{growing_linked, relinked_growing}
@@ -43,7 +42,7 @@ module _ (w : GrowingValue) (t : ℕ) (g : Grown) (at : tree_at w.forest t ≡ S
       (forest_paired (before_by w t ++ after_by w t) ++ map (link_by w.part.links) (match_links w.part.matching.matches))
       are.state.0 are.state.1.nest
       (forest_tree (problem_in w.part) w.part.nodes (before_by w t) (after_by w t) (tree_of (own_state w g are.state.0))
-      (map (link_by w.part.links) (match_links w.part.matching.matches)) w.part.matching.unmatched are.state.0
+      (map (link_by w.part.links) (match_links w.part.matching.matches)) w.part.matching.unmatched (waiting_in w) are.state.0
       (subst (IsForestState (problem_in w.part)) (state_among w t g are.state.0 at) are.state.1).forest)
       (λ id h.
       are.links.live id ∙ is_in-left (grown_ids (trees_in w.forest)) (kept_links w.part) id (ids_here w.forest t g at id h))

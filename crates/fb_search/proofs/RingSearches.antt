@@ -1,33 +1,31 @@
 -- A cycle of one of several trees that becomes a blossom keeps what is kept while trees grow, and leaves less to do.
-use Rattle.std.proofs.Common.{ℕ, ◌≡◌, ◌≤◌, ◌≢◌, ◌<◌, ◌⊎◌, inl, inr, Bool, true, false, List, [], ◌∷◌, ◌++◌, map, set, length, All, Option, Some, is_some, refl, sym, ap, ◌∙◌, subst, append_assoc, arith}
+use Rattle.std.proofs.Common.{ℕ, ◌≡◌, ◌≤◌, ◌≢◌, ◌<◌, inr, true, false, List, [], ◌∷◌, ◌++◌, map, set, length, All, Option, Some, is_some, refl, sym, ap, ◌∙◌, subst, append_assoc, arith}
 use Rattle.std.specs.List.Sorted.{IsPermutation}
-use Rattle.std.proofs.lemmas.Bool.{both_ways, false_from_ne_true, false≢true}
+use Rattle.std.proofs.lemmas.Bool.{both_ways, false_from_ne_true}
 use Rattle.std.proofs.lemmas.List.{map-append}
 use Rattle.std.proofs.lemmas.List.Sorted.{IsPermutation-append_comm, IsPermutation-append_left, IsPermutation-append_right, IsPermutation-cons, IsPermutation-sym, IsPermutation-trans, length_permutation}
 use Rattle.fb_graph.specs.Parity.{is_in}
 use Rattle.fb_graph.specs.Certificate.{AreDistinct}
-use Rattle.fb_graph.specs.Laws.{Link}
 use Rattle.fb_graph.specs.Limits.{IsWithinLimits}
 use Rattle.fb_graph.specs.Dual.{is_live, is_outer}
-use Rattle.fb_graph.specs.Moves.{MayJoin, joined_nodes}
+use Rattle.fb_graph.specs.Moves.{MayJoin, blossom, joined_nodes}
 use Rattle.fb_graph.specs.Steps.{Roles}
-use Rattle.fb_graph.proofs.Floods.{is_in-both, is_in-left, is_in-right}
+use Rattle.fb_graph.proofs.Floods.{is_in-left, is_in-right}
 use Rattle.fb_graph.proofs.JoinedNests.{height}
 use Rattle.fb_graph.proofs.Members.{distinct_left}
-use Rattle.fb_graph.proofs.Sets.{is_in-cases, is_in-tail}
 use Rattle.fb_links.specs.declared.cycle.CycleStep.{CycleStep}
 use Rattle.fb_blossoms.specs.Nodes.{Adds}
 use Rattle.fb_blossoms.specs.Nodes as blossoms
-use Rattle.fb_laws.specs.Forests.{AnyTree, forest_roles}
+use Rattle.fb_laws.specs.Forests.{forest_roles, forest_roots}
 use Rattle.fb_laws.specs.ForestStates.{IsForestState, among_trees, tree_of}
 use Rattle.fb_laws.specs.LinkNumbers.{tree_links}
 use Rattle.fb_laws.specs.Measures.{IsLower}
 use Rattle.fb_laws.specs.PartStates.{SearchState}
-use Rattle.fb_laws.specs.SearchBlossoms.{joined_tree, renamed_name}
+use Rattle.fb_laws.specs.SearchBlossoms.{renamed_name}
 use Rattle.fb_laws.specs.SearchLayers.{left_to_do}
-use Rattle.fb_laws.specs.StateBlossoms.{MayClose, joined_state, with_cycle}
-use Rattle.fb_laws.specs.TreeCycles.{cycle_links, nodes_along}
-use Rattle.fb_laws.specs.Trees.{Entry, EntryOf, tree_names}
+use Rattle.fb_laws.specs.StateBlossoms.{MayClose, joined_state}
+use Rattle.fb_laws.specs.TreeCycles.{nodes_along}
+use Rattle.fb_laws.specs.Trees.{tree_names}
 use Rattle.fb_laws.proofs.ForestBlossoms.{forest_state_closed}
 use Rattle.fb_laws.proofs.ForestMeasures.{forest_closed_less}
 use Rattle.fb_laws.proofs.ForestParts.{forest_state_relisted}
@@ -37,6 +35,7 @@ use Rattle.fb_trees.specs.Branches.{Grown}
 use Rattle.fb_trees.specs.Forests.{IsReplacedIn, all_roles, role_among, tree_at, trees_in}
 use Rattle.fb_trees.specs.Replacements as replacements
 use Rattle.fb_trees.specs.TreeSteps.{IsCycle}
+use Rattle.fb_trees.proofs.ForestsCounted.{as_many}
 use Rattle.fb_trees.proofs.Mapped.{joined_moved}
 use Rattle.fb_half.specs.Matchings.{IsMatchingOf, MatchingValue, listed_names, match_links, matched_names}
 use Rattle.fb_half.specs.Values.{IsScopeOf}
@@ -46,7 +45,7 @@ use Rattle.fb_half.specs.Parts.{AreAgreed, AreLinksOf, problem_in}
 use Rattle.fb_half.specs.Translations.{cycles_by, entry_by, link_by, ring_links}
 use Rattle.fb_obstacles.specs.Watched.{Watched}
 use Rattle.fb_search.specs.InternalClosings.{IsReplacedBy, WatchesMinusBy}
-use Rattle.fb_search.specs.InternalGrowing.{GrowingValue, IsGrowing, all_along, forest_state_at, grown_ids, tree_by}
+use Rattle.fb_search.specs.InternalGrowing.{GrowingValue, IsGrowing, all_along, forest_state_at, grown_ids, roles_among, tree_by, waiting_in}
 use Rattle.fb_search.specs.InternalGrowingRings.{ClosesIn}
 use Rattle.fb_search.specs.InternalGrowth.{GrowsOn}
 use Rattle.fb_search.proofs.Agreed.{agreed_joined, nodes_of}
@@ -54,17 +53,23 @@ use Rattle.fb_search.proofs.BegunSearches.{kept_limits}
 use Rattle.fb_search.proofs.ClosedCycles.{many_replaced, may_close, root_unlisted, steps_join}
 use Rattle.fb_search.proofs.ClosedWatches.{bounded_joined, watch_joined, watches_minus}
 use Rattle.fb_search.proofs.Cycles.{cycle_from, paths_of, same_cycle}
-use Rattle.fb_search.proofs.ForestPlaces.{after_by, along_first, before_by, ids_first, own_state, trees_after, trees_before, trees_beside, trees_split, trees_with}
-use Rattle.fb_search.proofs.GrowingRoles.{roles_numbers}
+use Rattle.fb_search.proofs.ForestPlaces.{after_by, along_first, before_by, ids_first, own_state, trees_after, trees_before, trees_split, trees_with}
+use Rattle.fb_search.proofs.GrowingRoles.{all_are, minus_live, roles_numbers}
 use Rattle.fb_search.proofs.JoinConditions.{cycle_within, outer_made}
 use Rattle.fb_search.proofs.JoinLinks.{links_closed}
-use Rattle.fb_search.proofs.JoinMatchings.{apart_after, matching_ring}
+use Rattle.fb_search.proofs.JoinMatchings.{matching_ring}
 use Rattle.fb_search.proofs.JoinStates.{links_stored, made_links, names_joined}
+use Rattle.fb_search.proofs.KeptNodes.{named_before}
 use Rattle.fb_search.proofs.Linked.{links_reordered}
-use Rattle.fb_search.proofs.Renamed.{along_names, tree_listed}
+use Rattle.fb_search.proofs.MinusBounds.{minus_joined}
+use Rattle.fb_search.proofs.Renamed.{tree_listed}
 use Rattle.fb_search.proofs.RingCycles.{ring_among, ring_closes}
+use Rattle.fb_search.proofs.RingMinus.{minus_was_among}
 use Rattle.fb_search.proofs.RingRoles.{minus_still_among, plus_was_among, role_here, set_here}
+use Rattle.fb_search.proofs.RolesAmong.{minus_among}
 use Rattle.fb_search.proofs.ScopeWalks.{scoped}
+use Rattle.fb_search.proofs.WaitingNames.{linked_roots, waiting_distinct, waits_unmatched}
+use Rattle.fb_search.proofs.WaitingStates.{waiting_read}
 
 -- the trees with these nodes of one of them as one blossom
 abbrev pub closed_growing : GrowingValue → ℕ → Grown → ℕ → List ℕ → List (Option blossoms.Node) → MatchingValue → Watched
@@ -255,40 +260,54 @@ module _ (w : GrowingValue) (a b closing : ℕ) (closes : ClosesIn w a b closing
         ∙ (sym (map-append (tree_by w.part.links) Before (Joined ∷ After))
         ∙ ap (map (tree_by w.part.links)) (sym (trees_with w.forest t g Joined closes.at)))
 
-    state_by_law : IsForestState (problem_in w.part) (among_trees (before_by w closes.tree) (after_by w closes.tree) by_law)
+    state_by_law : IsForestState (problem_in w.part)
+        (among_trees (before_by w closes.tree) (after_by w closes.tree) (waiting_in w) by_law)
     state_by_law =
         subst
         (λ c.
         IsForestState (problem_in w.part)
-        (among_trees (before_by w t) (after_by w t)
+        (among_trees (before_by w t) (after_by w t) (waiting_in w)
         (joined_state name c (made_links s w.part.links name closing is.shared is.up is.down) s)))
         (same_cycle w.part.links g.root is.shared is.up is.down)
-        (forest_state_closed (problem_in w.part) (before_by w t) (after_by w t) s name a b (link_by w.part.links closing)
+        (forest_state_closed (problem_in w.part) (before_by w t) (after_by w t) (waiting_in w) s name a b (link_by w.part.links closing)
         (map (entry_by w.part.links) is.shared) (map (entry_by w.part.links) is.up) (map (entry_by w.part.links) is.down) may
         (paths_of w.part.links s.tree g.branches refl a b is.shared is.up is.down is.paths) (ring_among w a b closing closes))
+
+    unmatched_once : AreDistinct matching.unmatched
+    unmatched_once =
+        distinct_left matching.unmatched (matched_names w.part.matching.matches)
+        (distinct_left (listed_names kept) (all_along (trees_in after.forest)) matching_after.distinct)
+
+    same_unmatched : (n : ℕ) → is_in matching.unmatched n ≡ is_in (map (renamed_name (is_in cycle) name) w.part.matching.unmatched) n
+    same_unmatched =
+        same_permuted (map (renamed_name (is_in cycle) name) w.part.matching.unmatched) matching.unmatched
+        (names_joined s w.part.links name closing is.shared is.up is.down listed.beside matching.unmatched listed.was others_out
+        listed.unmatched)
+
+    -- the same nodes wait
+    waits_as_before : (n : ℕ) → is_in (waiting_in after) n ≡ is_in (waiting_in w) n
+    waits_as_before =
+        waiting_read (problem_in w.part) (among_trees (before_by w t) (after_by w t) (waiting_in w) by_law) (trees_in after.forest)
+        matching.unmatched state_by_law (ap forest_roots trees_are ∙ linked_roots w.part.links (trees_in after.forest)) same_unmatched
 
     state_after : IsForestState (problem_in w.part) (forest_state_at after closes.growing.state.0)
     state_after =
         subst
         (λ ts.
         IsForestState (problem_in w.part)
-        (record (among_trees (before_by w t) (after_by w t) by_law) {
+        (record (among_trees (before_by w t) (after_by w t) (waiting_in w) by_law) {
           cycles = cycles_by w.part.links store;
           unmatched = matching.unmatched;
+          waiting = waiting_in after;
           trees = ts;
         }))
         trees_are
-        (forest_state_relisted (problem_in w.part) (among_trees (before_by w t) (after_by w t) by_law) (cycles_by w.part.links store)
-        matching.unmatched
+        (forest_state_relisted (problem_in w.part) (among_trees (before_by w t) (after_by w t) (waiting_in w) by_law)
+        (cycles_by w.part.links store) matching.unmatched (waiting_in after)
         (λ n live.
         links_stored s w.part.links name closing is.shared is.up is.down w.part.store store steps (λ n. refl) is.links adds n)
-        (distinct_left matching.unmatched (matched_names w.part.matching.matches)
-        (distinct_left (listed_names kept) (all_along (trees_in after.forest)) matching_after.distinct))
-        (λ n.
-        same_permuted (map (renamed_name (is_in cycle) name) w.part.matching.unmatched) matching.unmatched
-        (names_joined s w.part.links name closing is.shared is.up is.down listed.beside matching.unmatched listed.was others_out
-        listed.unmatched) n)
-        state_by_law)
+        unmatched_once
+        same_unmatched (waiting_distinct after unmatched_once) waits_as_before state_by_law)
 
     agreed : AreAgreed (joined_nodes name cycle w.part.nodes) store
     agreed =
@@ -328,6 +347,13 @@ module _ (w : GrowingValue) (a b closing : ℕ) (closes : ClosesIn w a b closing
           may_join (λ n child. role_here w.forest t g closes.at n (in_tree n child)) (plus_was_among w.forest t g closes.at cycle name)
           (minus_still_among w.forest t g closes.at cycle name) watches
           (height (problem_in w.part) w.part.nodes name cycle may_join closes.growing.state.1.nest) closes.growing.bounds;
+      minus =
+          minus_joined (roles_among w.forest) (roles_among after.forest) name cycle w.part.nodes w.watched watched watches.minus
+          (minus_was_among w.forest t g closes.at (all_are w closes.growing.state.0 closes.growing.state.1).exclusive cycle name)
+          (λ minus.
+          both_ways (is_live w.part.nodes name) ring_new
+          (minus_live w closes.growing.state.0 closes.growing.state.1 name (minus_among w.forest name minus)))
+          closes.growing.minus;
     }
 
     roles_before : forest_roles (before_by w closes.tree ++ tree_of s ∷ after_by w closes.tree) ≡ all_roles (trees_in w.forest)
@@ -362,13 +388,21 @@ module _ (w : GrowingValue) (a b closing : ℕ) (closes : ClosesIn w a b closing
         ++ tree_of (joined_state name c (made_links s w.part.links name closing is.shared is.up is.down) s) ∷ after_by w t)) true)
         (left_to_do (problem_in w.part) w.part.nodes (forest_roles (before_by w t ++ tree_of s ∷ after_by w t)) false))
         (same_cycle w.part.links g.root is.shared is.up is.down)
-        (forest_closed_less (problem_in w.part) (before_by w t) (after_by w t) s name a b (link_by w.part.links closing)
+        (forest_closed_less (problem_in w.part) (before_by w t) (after_by w t) (waiting_in w) s name a b (link_by w.part.links closing)
         (map (entry_by w.part.links) is.shared) (map (entry_by w.part.links) is.up) (map (entry_by w.part.links) is.down) false true
         may (paths_of w.part.links s.tree g.branches refl a b is.shared is.up is.down is.paths) (ring_among w a b closing closes))))
 
     ring_grows : GrowsOn w after
     ring_grows = record {
-      part = record { job = refl; slot = refl; node = refl };
+      grown = record {
+        part = record { job = refl; slot = refl; node = refl };
+        waits = λ n waits. sym (waits_as_before n) ∙ waits;
+        kept = λ n waits.
+            named_before n (blossom name cycle w.part.nodes) w.part.nodes
+            (closes.growing.state.1.names.live n (waits_unmatched w n (sym (waits_as_before n) ∙ waits)));
+        least = omega (arith, same, trees);
+        most = omega (arith, same, trees);
+      };
       less = inr (count, less_after);
     }
       where
@@ -376,6 +410,9 @@ module _ (w : GrowingValue) (a b closing : ℕ) (closes : ClosesIn w a b closing
         same =
             length_permutation (Joined.root ∷ listed.beside) matching.unmatched listed.unmatched
             ∙ length_permutation w.part.matching.unmatched (g.root ∷ listed.beside) listed.was
+
+        trees : length (trees_in (set w.forest t (Some Joined))) ≡ length (trees_in w.forest)
+        trees = as_many w.forest t g Joined closes.at
 
         count : length matching.unmatched ≤ length w.part.matching.unmatched
         count = omega (arith, same)

@@ -25,20 +25,6 @@ minus_in_tree t name h = by (is_in (plus_names t.root t.branches) name) (is_in (
     by false true h = refl
     by false false h = h
 
-pub minus_not_plus : (t : Grown) (name : ℕ) → shrinks (role_in t name) ≡ true
-    → is_in (plus_names t.root t.branches) name ≡ false
-minus_not_plus t name h = by (is_in (plus_names t.root t.branches) name) (is_in (minus_names t.branches) name) h
-  where
-    by : (plus minus : Bool) → shrinks (if plus then Plus else (if minus then Minus else Out)) ≡ true → plus ≡ false
-    by true minus h = absurd (false≢true h)
-    by false minus h = refl
-
-pub minus_role : (t : Grown) (name : ℕ) → is_in (plus_names t.root t.branches) name ≡ false
-    → is_in (minus_names t.branches) name ≡ true → shrinks (role_in t name) ≡ true
-minus_role t name out minus =
-    ap (λ b. shrinks (if b then Plus else (if is_in (minus_names t.branches) name then Minus else Out))) out
-    ∙ ap (λ b. shrinks (if b then Minus else Out)) minus
-
 pub only_minus : (r : Role) → shrinks r ≡ true → r ≡ Minus
 only_minus Plus shrink = absurd (false≢true shrink)
 only_minus Minus shrink = refl

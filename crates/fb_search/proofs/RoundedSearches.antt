@@ -1,5 +1,5 @@
 -- The branch of a minus node that has shrunk to its defect: its two links may be joined there, and close a cycle.
-use Rattle.std.proofs.Common.{ℕ, ◌≡◌, ◌≢◌, ◌==◌, inl, inr, true, List, [], ◌∷◌, map, All, Option, Some, unwrap_or, refl, sym, ap, ◌∙◌, subst}
+use Rattle.std.proofs.Common.{ℕ, ◌≡◌, ◌≢◌, ◌==◌, inl, inr, true, List, [], ◌∷◌, map, All, Some, refl, sym, ap, ◌∙◌, subst}
 use Rattle.std.proofs.lemmas.Bool.{both_ways, eq-eqb}
 use Rattle.std.proofs.lemmas.List.Elements.{All-cons, All-nil}
 use Rattle.fb_graph.specs.Parity.{is_in}
@@ -18,22 +18,18 @@ use Rattle.fb_laws.specs.Works.{AreMatchedLinks}
 use Rattle.fb_laws.specs.Opening.{EndsAtDefects}
 use Rattle.fb_laws.proofs.OpenedCycles.{parent_plus}
 use Rattle.fb_laws.proofs.SearchStates.{links_joined, links_left}
-use Rattle.fb_laws.proofs.SearchTrees.{connects_sym, plus_in_tree}
+use Rattle.fb_laws.proofs.SearchTrees.{plus_in_tree}
 use Rattle.fb_laws.proofs.TreePaths.{among_plus, tree_connects}
 use Rattle.fb_links.specs.declared.walk.Step.{Step}
-use Rattle.fb_links.specs.Table.{Adds, is_live, link_at, walk_at}
+use Rattle.fb_links.specs.Table.{is_live, link_at, walk_at}
 use Rattle.fb_links.specs.Walks.{joined_walk}
 use Rattle.fb_trees.specs.Rooted.{IsBranchAt, IsPlus}
 use Rattle.fb_trees.proofs.Mapped.{plus_moved}
-use Rattle.fb_half.specs.Parts.{AreStepsOf, PartValue, kept_links, problem_in}
+use Rattle.fb_half.specs.Parts.{AreStepsOf, PartValue, problem_in}
 use Rattle.fb_trees.specs.Branches.{Grown}
 use Rattle.fb_graph.specs.Nests.{IsNest}
-use Rattle.fb_half.specs.Translations.{entry_by, link_by, link_of}
+use Rattle.fb_half.specs.Translations.{entry_by, link_by}
 use Rattle.fb_obstacles.specs.Obstacles.{IsZeroDefect}
-use Rattle.fb_search.specs.InternalClosings.{Closes}
-use Rattle.fb_search.specs.InternalProgress.{GoesOn}
-use Rattle.fb_search.specs.InternalSearching.{IsSearching, SearchValue, problem_of, relinked_search, state_at}
-use Rattle.fb_search.proofs.MadeLinks.{link_made}
 use Rattle.fb_search.proofs.RoundedLinks.{AreRounded, links_rounded}
 use Rattle.fb_search.proofs.StepWalks.{walk_there}
 use Rattle.fb_graph.proofs.Floods.{is_in-left, is_in-right}
@@ -145,39 +141,3 @@ module _ (part : PartValue) (tree : Grown) (rest : List Link) (r : ℕ) (nest : 
         (steps e.tree (walk_at part.links e.tree) (walk_there part.links e.tree live_tree))
         (steps e.matched (walk_at part.links e.matched) (walk_there part.links e.matched live_matched));
   }
-
-pub rounding : (w : SearchValue) (name : ℕ) (e : EntryOf ℕ) → IsSearching w → IsZeroDefect w.part.nodes name
-    → IsBranchAt w.tree name e → IsRounding w.part w.tree e
-rounding w name e are zero at =
-    rounding_in w.part w.tree (state_at w are.state.0).rest are.state.0 are.state.1.search.nest are.state.1.search.search
-    (λ id h. are.links.live id ∙ is_in-left (tree_links w.tree.branches) (kept_links w.part) id h) are.links.steps name e zero at
-
--- the joined link made
-module _ (w : SearchValue) (e : EntryOf ℕ) (id : ℕ) (new : List (Option (List Step))) (is : IsRounding w.part w.tree e)
-    (adds : Adds w.part.links new id (joined_walk (walk_at w.part.links e.tree) (walk_at w.part.links e.matched))) where
-  made : link_of (joined_walk (walk_at w.part.links e.tree) (walk_at w.part.links e.matched)) ≡ link_by new id
-  made = ap (λ o. link_of (unwrap_or o [])) (sym adds.added)
-
-  -- closes a cycle
-  pub rounded_closes : IsSearching w → Closes (relinked_search new w) e.plus e.parent id
-  rounded_closes are = record {
-    search = link_made w id (joined_walk (walk_at w.part.links e.tree) (walk_at w.part.links e.matched)) new are adds
-        is.links.steps;
-    first = is.plus;
-    second = is.parent;
-    apart = is.apart;
-    connects = connects_sym w.part.nodes (link_by new id) e.parent e.plus
-        (subst (λ l. Connects w.part.nodes l e.parent e.plus) made is.links.connects);
-    tight = subst (λ l. AreMatchedLinks (problem_of w) w.part.nodes (l ∷ [])) made is.links.matched;
-  }
-
--- what is left to do does not depend on links
-pub goes_on_relinked : (w after : SearchValue) (new : List (Option (List Step))) → GoesOn (relinked_search new w) after
-    → GoesOn w after
-goes_on_relinked w after new on = record {
-  part = record { job = on.part.job; slot = on.part.slot; node = on.part.node };
-  others = on.others;
-  kept = on.kept;
-  count = on.count;
-  less = on.less;
-}

@@ -5,7 +5,7 @@ use Rattle.fb_graph.specs.Parity.{is_in}
 use Rattle.fb_graph.specs.Certificate.{AreDistinct}
 use Rattle.fb_graph.specs.Laws.{HasNoOddClosed}
 use Rattle.fb_graph.specs.Limits.{no_shot}
-use Rattle.fb_graph.specs.Dual.{IsCrossed, cover_of, is_live, is_outer, no_node, top_at}
+use Rattle.fb_graph.specs.Dual.{IsCrossed, is_live, no_node, top_at}
 use Rattle.fb_graph.specs.Nests.{IsNest}
 use Rattle.fb_graph.proofs.Among.{live_among, top_among}
 use Rattle.fb_graph.proofs.ClosedSets.{edge_leaves}
@@ -16,7 +16,7 @@ use Rattle.fb_laws.specs.Trees.{Entry, minus_names, plus_names, roles_of, tree_n
 use Rattle.fb_laws.specs.Works.{IsSetOf}
 use Rattle.fb_laws.proofs.HalvesKept.{odd_of_part}
 use Rattle.fb_laws.proofs.SearchStates.{named_set}
-use Rattle.fb_laws.proofs.SearchTrees.{cover_place, minus_in_tree, plus_in_tree}
+use Rattle.fb_laws.proofs.SearchTrees.{minus_in_tree, plus_in_tree}
 use Rattle.fb_plan.proofs.ShotPlans.{shot_even}
 use Rattle.fb_regions.specs.declared.roles.Role.TheVariants.{Plus, Minus, Out}
 use Rattle.fb_trees.proofs.Mapped as mapped
@@ -76,15 +76,6 @@ module _ (w : SearchValue) (are : IsSearching w) where
   pub minus_live : (name : ℕ) → is_in (minus_names w.tree.branches) name ≡ true → is_live w.part.nodes name ≡ true
   minus_live name minus =
       named_live name (minus_in_tree w.tree.root (linked_tree w) name (ap (λ l. is_in l name) same_minus ∙ minus))
-
-  -- a node over a vertex is a live outer one
-  pub outer_live : (v name : ℕ) → cover_of w.part.nodes v ≡ Some name
-      → (is_live w.part.nodes name ≡ true) × (is_outer w.part.nodes name ≡ true)
-  outer_live v name over =
-      let (i, less, named, outer, within) = cover_place w.part.nodes v name over in (
-        list_any_at (λ n. n.name == name) w.part.nodes i no_node less (eq-eqb _ _ named),
-        outer,
-      )
 
   -- no sub-problem of a shot that has a correction has an odd closed set
   pub no_odd_closed : HasNoOddClosed (problem_of w)

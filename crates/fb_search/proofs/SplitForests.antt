@@ -15,7 +15,7 @@ use Rattle.fb_half.specs.Matchings.{match_links}
 use Rattle.fb_half.specs.Translations.{cycles_by, entry_by, link_by}
 use Rattle.fb_trees.specs.Branches.{Grown}
 use Rattle.fb_trees.specs.Forests.{IsPlusNode, all_minus, all_plus, tree_at, trees_in}
-use Rattle.fb_search.specs.InternalGrowing.{GrowingValue, all_along, forest_state_at, grown_ids, tree_by}
+use Rattle.fb_search.specs.InternalGrowing.{GrowingValue, all_along, forest_state_at, grown_ids, tree_by, waiting_in}
 
 -- the trees before that of this number, and those after it
 pub record IsAmongTrees (f : List (Option Grown)) (t : ℕ) (g : Grown) : Type 0 where
@@ -86,7 +86,7 @@ beside_by w gs = map (tree_by w.part.links) gs
 
 -- the trees as those beside one of them
 pub state_among : (w : GrowingValue) (parity : ℕ) (before after : List Grown) (g : Grown) → trees_in w.forest ≡ before ++ g ∷ after
-    → forest_state_at w parity ≡ among_trees (beside_by w before) (beside_by w after) (tree_state w g parity)
+    → forest_state_at w parity ≡ among_trees (beside_by w before) (beside_by w after) (waiting_in w) (tree_state w g parity)
 state_among w parity before after g there i = record (forest_state_at w parity) {
   trees = (ap (map (tree_by w.part.links)) there ∙ map-append (tree_by w.part.links) before (g ∷ after)) i;
 }

@@ -1,35 +1,32 @@
 -- A step of the tree keeps what every search keeps.
-use Rattle.std.proofs.Common.{ℕ, ◌≡◌, ◌+◌, ◌*◌, ◌%◌, ◌^◌, ◌≤◌, ◌⊎◌, inl, inr, Bool, true, false, map, List, ◌++◌, Option, Some, None, refl, sym, ap, ◌∙◌, subst, arith}
+use Rattle.std.proofs.Common.{ℕ, ◌≡◌, ◌+◌, ◌*◌, ◌%◌, ◌≤◌, ◌⊎◌, inl, inr, Bool, true, false, List, ◌++◌, Option, Some, None, refl, sym, ap, ◌∙◌, subst, arith}
 use Rattle.std.proofs.lemmas.List.Elements.{All-weaker}
 use Rattle.fb_graph.specs.Counts.{as_count}
-use Rattle.fb_graph.specs.Parity.{is_in}
 use Rattle.fb_graph.specs.Problem.{Problem, edge_at}
 use Rattle.fb_graph.specs.Laws.{Link}
 use Rattle.fb_graph.specs.Limits.{DecodingGraph, IsWithinLimits, no_shot}
 use Rattle.fb_graph.specs.Covers.{is_covered_by, passes}
-use Rattle.fb_graph.specs.Dual.{AreUnderOne, Node, all_cuts, cover_of, height_of}
+use Rattle.fb_graph.specs.Dual.{AreUnderOne, Node, cover_of}
 use Rattle.fb_graph.specs.Nests.{first_set}
 use Rattle.fb_graph.specs.Steps.{MayStep, Roles, stepped_nodes, stepped_node}
 use Rattle.fb_graph.proofs.Among.{among_All}
 use Rattle.fb_graph.proofs.MappedNodes.{AreKept, mapped_outer, mapped_live}
-use Rattle.fb_graph.proofs.StepHeights.{cover_stepped, height_stepped}
+use Rattle.fb_graph.proofs.StepHeights.{cover_stepped}
 use Rattle.fb_graph.proofs.SteppedNests.{first_stepped}
 use Rattle.fb_laws.specs.LinkNumbers.{tree_links}
 use Rattle.fb_laws.specs.PartStates.{IsSearchState}
 use Rattle.fb_laws.specs.Searches.{LeavesNode}
-use Rattle.fb_laws.specs.Trees.{Connects, plus_names, roles_of}
-use Rattle.fb_laws.proofs.JoinedThree.{root_plus}
+use Rattle.fb_laws.specs.Trees.{Connects, roles_of}
 use Rattle.fb_laws.proofs.StateMoves.{state_stepped}
-use Rattle.fb_regions.proofs.Readings.{height-le}
-use Rattle.fb_trees.proofs.Mapped.{plus_moved}
 use Rattle.fb_half.specs.Matchings.{IsMatchOf, match_links}
 use Rattle.fb_half.specs.Parts.{AreLinksOf, graph_in}
-use Rattle.fb_half.specs.Translations.{entry_by, link_by}
+use Rattle.fb_half.specs.Translations.{link_by}
 use Rattle.fb_obstacles.specs.Obstacles.{AreMinusBounded, IsWatched, slack_at}
 use Rattle.fb_obstacles.specs.Watched.{AreBounded}
 use Rattle.fb_plan.specs.Plans.{PlanTree, problem_at}
 use Rattle.fb_trees.specs.InternalSteps.{IsTreeOver}
-use Rattle.fb_search.specs.InternalProgress.{lowered_by, stepped_by}
+use Rattle.fb_search.specs.InternalGrowth.{lowered_by}
+use Rattle.fb_search.specs.InternalSearching.{stepped_by}
 use Rattle.fb_search.specs.InternalSearching.{IsSearching, SearchValue, problem_of, roles_in, state_at}
 use Rattle.fb_search.proofs.MinusBounds.{minus_stepped}
 use Rattle.fb_search.proofs.KeptBounds.{bounded_stepped}
@@ -139,22 +136,6 @@ risen-le k old new false true law is_minus is_plus = omega (arith, law)
 risen-le k old new true plus law is_minus is_plus = cc
 risen-le k old new false false law is_minus is_plus = cc
 
--- A step is no longer than the greatest potential after it.
-pub length_fits : (w : SearchValue) (k : ℕ) → IsSearching w → IsSearching (stepped_by k w)
-    → MayStep (problem_of w) (roles_of w.tree.root w.tree.branches) w.part.nodes k → k ≤ 2 ^ 52
-length_fits w k are after may =
-    let roles : Roles = roles_of w.tree.root w.tree.branches in
-    let (d, leaf, cover) = are.state.1.search.search.root_is in
-    let plus : is_in (plus_names w.tree.root w.tree.branches) w.tree.root ≡ true =
-    ap (λ names. is_in names w.tree.root) (sym (plus_moved (link_by w.part.links) w.tree.root w.tree.branches))
-    ∙ root_plus w.tree.root (map (entry_by w.part.links) w.tree.branches) in
-    let least =
-    risen-le k (height_of (all_cuts w.part.nodes) d) (height_of (all_cuts (stepped_nodes roles k w.part.nodes)) d)
-    (is_covered_by roles.is_minus w.part.nodes d) (is_covered_by roles.is_plus w.part.nodes d)
-    (height_stepped roles w.part.nodes k d are.state.1.search.nest.dual.apart (tree_roles w are) may.tops)
-    (ap (passes roles.is_minus) cover ∙ (tree_roles w are).exclusive w.tree.root plus) (ap (passes roles.is_plus) cover ∙ plus) in
-    omega (arith, least, height-le (problem_of w) (stepped_nodes roles k w.part.nodes) d after.state.1.search.nest)
-
 -- The problem of the part's scope has no defects; a step doesn't ask for them.
 pub tree_in_scope : (w : SearchValue) (g : DecodingGraph) (t : PlanTree) (n : ℕ) → g ≡ graph_in w.part
     → IsTreeOver (problem_of w) w.tree w.part.nodes → IsTreeOver (problem_at g t n no_shot) w.tree w.part.nodes
@@ -171,8 +152,3 @@ tree_in_scope w g t n eg over =
 pub step_in_scope : (w : SearchValue) (g : DecodingGraph) (t : PlanTree) (n k : ℕ) (roles : Roles) → g ≡ graph_in w.part
     → MayStep (problem_of w) roles w.part.nodes k → MayStep (problem_at g t n no_shot) roles w.part.nodes k
 step_in_scope w g t n k roles eg may = rw eg (record { edges = may.edges; tops = may.tops })
-
--- the step that is allowed by the roles of the tree
-pub step_by_names : (w : SearchValue) (k : ℕ) → IsSearching w → MayStep (problem_of w) (roles_in w) w.part.nodes k
-    → MayStep (problem_of w) (roles_of w.tree.root w.tree.branches) w.part.nodes k
-step_by_names w k are may = subst (λ r. MayStep (problem_of w) r w.part.nodes k) (roles_in_tree w are) may

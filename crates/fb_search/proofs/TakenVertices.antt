@@ -1,42 +1,25 @@
 -- A vertex that a plus node absorbs keeps what every search keeps, and leaves less to do.
-use Rattle.std.proofs.Common.{ℕ, ◌≡◌, ◌==◌, ◌<◌, ◌⊎◌, inl, inr, Bool, true, false, List, length, All, Option, Some, None, IsSome, refl, sym, ap, ◌∙◌, subst}
+use Rattle.std.proofs.Common.{ℕ, ◌≡◌, ◌==◌, ◌<◌, ◌⊎◌, inl, inr, Bool, true, false, List, length, Option, Some, None, refl, sym, ap, ◌∙◌, subst}
 use Rattle.std.proofs.lemmas.Bool.{false≢true, eqb-true, ne_eqb}
 use Rattle.fb_graph.specs.Parity.{is_in}
 use Rattle.fb_graph.specs.Problem.{Problem, edge_at, touches}
-use Rattle.fb_graph.specs.declared.parts.Edge.{Edge}
 use Rattle.fb_graph.specs.Limits.{DecodingGraph, IsWithinLimits, no_shot}
 use Rattle.fb_graph.specs.Covers.{is_covered_by, passes}
-use Rattle.fb_graph.specs.Dual.{AreUnderOne, Node, cover_of, is_outer, taller_node, all_cuts, height_of}
+use Rattle.fb_graph.specs.Dual.{AreUnderOne, Node, cover_of, all_cuts, height_of}
 use Rattle.fb_graph.specs.Moves.{MayAbsorb, absorbed_nodes}
 use Rattle.fb_graph.specs.Steps.{Roles}
-use Rattle.fb_graph.proofs.Among.{cover_among}
-use Rattle.fb_graph.proofs.ChangedNodes.{change, first_taller, kept_by}
-use Rattle.fb_graph.proofs.TallerNodes.{taller_alike, taller_covers}
-use Rattle.fb_graph.proofs.TightLinks.{all_even}
-use Rattle.fb_laws.specs.Measures.{IsLower}
-use Rattle.fb_laws.specs.SearchLayers.{left_to_do}
-use Rattle.fb_laws.proofs.MoveBridges.{no_leaf}
-use Rattle.fb_laws.proofs.StateMeasures.{absorbed_less}
-use Rattle.fb_laws.proofs.StateMoves.{state_absorbed}
+use Rattle.fb_graph.proofs.TallerNodes.{taller_covers}
 use Rattle.fb_regions.specs.Moves.{absorbed_over, inner_end, outer_end}
-use Rattle.fb_trees.proofs.Mapped.{plus_moved}
 use Rattle.fb_trees.proofs.TightWalks.{ends_told}
 use Rattle.fb_plan.specs.Plans.{PlanTree, problem_at}
 use Rattle.fb_half.specs.Parts.{PartValue, graph_in, problem_in}
-use Rattle.fb_half.specs.Translations.{link_by}
 use Rattle.fb_obstacles.specs.Obstacles.{IsAbsorb, IsWatched, slack_at}
 use Rattle.fb_obstacles.specs.InternalWatching.{WatchesTaken}
 use Rattle.fb_obstacles.specs.Watched.{AreBounded, Watched}
 use Rattle.fb_obstacles.proofs.LeftEdges.{watched_at, watched_elsewhere}
-use Rattle.fb_search.specs.InternalProgress.{GoesOn}
-use Rattle.fb_search.specs.InternalSearching.{IsSearching, SearchValue, problem_of, roles_in, state_at}
+use Rattle.fb_search.specs.InternalSearching.{SearchValue, problem_of, roles_in}
 use Rattle.fb_search.proofs.BegunSearches.{touches_first, touches_second}
 use Rattle.fb_search.proofs.KeptBounds.{slack_beside}
-use Rattle.fb_search.proofs.KeptNodes.{beside_taller}
-use Rattle.fb_search.proofs.Relayered.{relayered_by, searching_relayered}
-use Rattle.fb_search.proofs.Runs.{roles_by_numbers}
-use Rattle.fb_search.proofs.MinusBounds.{minus_changed}
-use Rattle.fb_search.proofs.RolesInTree.{not_both, plus_in_tree}
 
 pub plus_over : (test : ℕ → Bool) (nodes : List Node) (u : ℕ) → is_covered_by test nodes u ≡ true
     → (name : ℕ) × (cover_of nodes u ≡ Some name) × (test name ≡ true)
@@ -91,10 +74,6 @@ module _ (p : Problem) (roles : Roles) (nodes : List Node) (name v : ℕ) (limit
       slack_beside roles nodes (absorbed_nodes name v nodes) v (edge_at p.edges k) heights
       (λ u other. taller_covers nodes name v u (ne_eqb v u other)) away)
 
--- the search with the vertex in the node, and with these edges watched
-abbrev pub raised : ℕ → ℕ → Watched → SearchValue → SearchValue
-raised name v watched w = relayered_by (change name (taller_node v)) watched w
-
 pub may_take : (w : SearchValue) (k u v name : ℕ) → IsAbsorb (problem_of w) (roles_in w) w.part.nodes k u v
     → cover_of w.part.nodes u ≡ Some name → MayAbsorb (problem_of w) w.part.nodes name k u v
 may_take w k u v name is covered = record {
@@ -104,43 +83,6 @@ may_take w k u v name is covered = record {
   covered = covered;
   uncovered = is.uncovered;
   real = is.real;
-}
-
-pub searching_raised : (w : SearchValue) (k u v name : ℕ) (new : Watched) → IsSearching w → IsWithinLimits (problem_of w)
-    → MayAbsorb (problem_of w) w.part.nodes name k u v → (roles_in w).is_plus name ≡ true → All (λ j. j < new.edge_count) new.edges
-    → WatchesTaken (problem_of w) (absorbed_nodes name v w.part.nodes) v w.watched new → IsSearching (raised name v new w)
-searching_raised w k u v name new are limits may plus within watched =
-    let alike = (taller_alike w.part.nodes name v (no_leaf (problem_of w) w.part.nodes v are.state.1.search.nest.dual may.uncovered)).0 in
-    searching_relayered w (change name (taller_node v)) new are
-    (kept_by name (taller_node v) w.part.nodes (λ n. refl) (λ n. refl) (λ n a e. first_taller v n) outer) alike
-    (state_absorbed (problem_of w) (state_at w are.state.0) name k u v (all_even (problem_of w) limits) may are.state.1)
-    watched.room
-    (record {
-      within = subst (λ n. All (λ j. j < n) new.edges) (watched.room ∙ are.room) within;
-      near = near_taken (problem_of w) (roles_in w) w.part.nodes name v limits w.watched new watched are.watch;
-    })
-    (bounded_taken (problem_of w) (roles_in w) w.part.nodes name v limits w.watched new watched are.watch alike.heights are.bounds)
-    (minus_changed (roles_in w) name (taller_node v) w.part.nodes w.watched new watched.minus (λ n. refl)
-    (λ i d less same minus. absurd (not_both _ plus minus)) are.minus)
-  where
-    outer : is_outer w.part.nodes name ≡ true
-    outer =
-        let over = cover_among w.part.nodes u name may.covered in
-        ap (is_outer w.part.nodes) (sym over.named) ∙ over.outer
-
-pub goes_on_raised : (w : SearchValue) (k u v name : ℕ) (new : Watched) → IsSearching w → IsWithinLimits (problem_of w)
-    → MayAbsorb (problem_of w) w.part.nodes name k u v → (roles_in w).is_plus name ≡ true → GoesOn w (raised name v new w)
-goes_on_raised w k u v name new are limits may plus = record {
-  part = record { job = refl; slot = refl; node = refl };
-  others = λ n. refl;
-  kept = λ n beside. beside_taller w name v are (plus_in_tree w.tree name plus) n beside;
-  count = refl;
-  less =
-      subst (λ roles. IsLower (left_to_do (problem_of w) (absorbed_nodes name v w.part.nodes) roles true) (left_to_do (problem_of w) w.part.nodes roles false))
-      (roles_by_numbers w)
-      (absorbed_less (problem_of w) (state_at w are.state.0) name k u v false true limits may
-      (ap (λ names. is_in names name) (plus_moved (link_by w.part.links) w.tree.root w.tree.branches) ∙ plus_in_tree w.tree name plus)
-      are.state.1);
 }
 
 -- the edge's ends, as the dual state finds them
@@ -168,27 +110,6 @@ absorbs w k u v is =
       outer = ends.1;
       nodes = rw (ends.0, ends.1, covered) refl;
     }
-
--- the same by a list of edges that is known to be the problem's
-module _ (w : SearchValue) (k : ℕ) (a : Absorbs w k) (edges : List Edge) (same : edges ≡ (problem_of w).edges) where
-  pub inner_held : IsSome (cover_of w.part.nodes (inner_end w.part.nodes (edge_at edges k)))
-  inner_held = rw same (subst IsSome (sym (ap (cover_of w.part.nodes) a.inner ∙ a.may.covered)) refl)
-
-  pub outer_free : cover_of w.part.nodes (outer_end w.part.nodes (edge_at edges k)) ≡ None
-  outer_free = rw same (ap (cover_of w.part.nodes) a.outer ∙ a.may.uncovered)
-
-  pub nodes_taken : absorbed_over w.part.nodes (edge_at edges k) ≡ absorbed_nodes a.name a.to w.part.nodes
-  nodes_taken = rw same a.nodes
-
-  pub end_taken : (taken : ℕ) → taken ≡ outer_end w.part.nodes (edge_at edges k) → taken ≡ a.to
-  end_taken taken is = is ∙ (ap (λ es. outer_end w.part.nodes (edge_at es k)) same ∙ a.outer)
-
-pub taken_below : (w : SearchValue) (k : ℕ) (a : Absorbs w k) (taken vertices : ℕ) → IsWithinLimits (problem_of w)
-    → taken ≡ a.to → vertices ≡ (problem_of w).vertices → taken < vertices
-taken_below w k a taken vertices limits at same = rw (at, same) (limits.real_below a.to a.may.real)
-
-pub absorbs_some : (w : SearchValue) (k : ℕ) → ((u v : ℕ) × IsAbsorb (problem_of w) (roles_in w) w.part.nodes k u v) → Absorbs w k
-absorbs_some w k (u, v, is) = absorbs w k u v is
 
 -- what is watched by the problem of the part, though that of its node's scope has no defects
 pub kept_taken : (part : PartValue) (g : DecodingGraph) (t : PlanTree) (n taken v : ℕ) (now later nodes : List Node)

@@ -1,5 +1,5 @@
 -- A tree meets the boundary or an unmatched node: what the calls that end the search ask for, and that a part is left.
-use Rattle.std.proofs.Common.{ℕ, ◌≡◌, ◌≢◌, ◌⊎◌, inl, inr, true, All, List, [], ◌∷◌, ◌++◌, map, refl, sym, ap, ◌∙◌, subst, append-nil}
+use Rattle.std.proofs.Common.{ℕ, ◌≡◌, ◌≢◌, ◌⊎◌, inl, inr, true, List, [], ◌∷◌, ◌++◌, map, refl, sym, ap, ◌∙◌, subst, append-nil}
 use Rattle.std.specs.List.Sorted.{IsPermutation}
 use Rattle.std.proofs.lemmas.Bool.{false≢true}
 use Rattle.std.proofs.lemmas.Grind.{flat_map-append}
@@ -13,24 +13,23 @@ use Rattle.fb_laws.specs.LinkNumbers.{links_dropped}
 use Rattle.fb_laws.specs.Trees.{EntryOf, IsTree, plus_names}
 use Rattle.fb_laws.proofs.OpenedBlossoms.{distinct_permuted, same_permuted}
 use Rattle.fb_links.specs.declared.walk.Step.{Step}
-use Rattle.fb_links.specs.Table.{Adds, is_live}
+use Rattle.fb_links.specs.Table.{Adds}
 use Rattle.fb_trees.specs.Rooted.{AreHung}
 use Rattle.fb_trees.proofs.Mapped.{plus_moved}
 use Rattle.fb_trees.proofs.Names.{root_plus}
 use Rattle.fb_half.specs.declared.matches.Match.{Match}
 use Rattle.fb_half.specs.Parts.{IsPart}
 use Rattle.fb_half.specs.Matchings.{matched_names, names_of}
-use Rattle.fb_half.specs.Translations.{entry_by, link_by, ring_links}
+use Rattle.fb_half.specs.Translations.{entry_by, link_by}
 use Rattle.fb_search.specs.InternalEndings.{Forgets, ended_matches}
 use Rattle.fb_search.specs.InternalTightEdges.{LeadsOut, Meets}
 use Rattle.fb_trees.specs.InternalMetWalks.{IsMetWalk, IsOut, IsOutWalk, IsTightWalk}
 use Rattle.fb_search.specs.Progress.{IsSearched}
-use Rattle.fb_search.specs.InternalSearching.{IsSearching, SearchValue, problem_of, roles_in, searched_links}
-use Rattle.fb_search.proofs.DroppedLinks.{dropped_live, dropped_once}
-use Rattle.fb_search.proofs.EndedCases.{links_counted, taken_at_boundary, taken_with}
+use Rattle.fb_search.specs.InternalSearching.{IsSearching, SearchValue, problem_of, roles_in}
+use Rattle.fb_search.proofs.EndedCases.{taken_at_boundary, taken_with}
 use Rattle.fb_search.proofs.EndedLinks.{names_listed}
 use Rattle.fb_search.proofs.EndedMatches.{AreTaken}
-use Rattle.fb_search.proofs.EndedParts.{others_kept, part_after}
+use Rattle.fb_search.proofs.EndedParts.{part_after}
 use Rattle.fb_search.proofs.EndedWays.{AreRelinked, boundary_match, ended_at_boundary, ended_with, met_match}
 use Rattle.fb_search.proofs.RolesInTree.{plus_in_tree}
 use Rattle.fb_search.proofs.ScopeWalks.{IsBetweenThem, between_them}
@@ -121,19 +120,6 @@ ended_apart w name unmatched out are plus takes =
 
 -- the links that are forgotten
 module _ (w : SearchValue) (name link : ℕ) (walk : List Step) (mid : Table) (are : IsSearching w) where
-  counted : IsPermutation (searched_links w)
-      (others_kept w name w.part.matching.matches ++ links_dropped w.tree.branches name)
-  counted = links_counted w.tree.branches name w.part.matching.matches (ring_links w.part.nodes w.part.store)
-
-  pub gone_once : AreDistinct (links_dropped w.tree.branches name)
-  gone_once = dropped_once (problem_of w) w.part.links (searched_links w) (others_kept w name w.part.matching.matches)
-      (links_dropped w.tree.branches name) are.links counted
-
-  pub gone_live : Adds w.part.links mid link walk → All (λ k. is_live mid k ≡ true) (links_dropped w.tree.branches name)
-  gone_live adds =
-      dropped_live (problem_of w) w.part.links mid (searched_links w) (others_kept w name w.part.matching.matches)
-      (links_dropped w.tree.branches name) link walk are.links counted adds
-
   pub relinked_by : (new : Table) → is_in (plus_names w.tree.root w.tree.branches) name ≡ true
       → IsTightWalk (problem_of w) w.part.nodes walk → Adds w.part.links mid link walk
       → Forgets (links_dropped w.tree.branches name) mid new → AreRelinked w name link walk new

@@ -26,7 +26,7 @@ use Rattle.fb_half.specs.Translations.{link_by}
 use Rattle.fb_half.proofs.FlatPermutations.{flat_permuted}
 use Rattle.fb_trees.specs.Branches.{Grown}
 use Rattle.fb_trees.specs.Forests.{IsOutside, trees_in}
-use Rattle.fb_search.specs.InternalGrowing.{GrowingValue, IsGrowingBeside, all_along, tree_by}
+use Rattle.fb_search.specs.InternalGrowing.{GrowingValue, IsGrowingBeside, all_along, tree_by, waiting_in}
 use Rattle.fb_search.specs.InternalMeetings.{IsBoundaryMatch, IsCouple}
 use Rattle.fb_search.proofs.MetMatches.{couple_names}
 use Rattle.fb_search.proofs.Renamed.{tree_listed}
@@ -126,7 +126,8 @@ matched_in_none more w are n matched t g at =
     open_root : is_in w.part.matching.unmatched g.root ≡ true
     open_root =
         are.state.1.forest.roots g.root
-        ∙ (ap (λ ts. is_in (forest_roots (map (tree_by w.part.links) ts)) g.root) split.there
+        ∙ is_in-left (forest_roots (map (tree_by w.part.links) (trees_in w.forest))) (waiting_in w) g.root
+        (ap (λ ts. is_in (forest_roots (map (tree_by w.part.links) ts)) g.root) split.there
         ∙ root_there w.part.links split.before split.after g)
 
     other : g.root ≡ n → ⊥

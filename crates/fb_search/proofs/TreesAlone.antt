@@ -1,6 +1,6 @@
 -- One of several trees as one that is alone: the matching has the matched links of the other trees too, and their other links are
 -- kept beside those of the tree.
-use Rattle.std.proofs.Common.{ℕ, ◌≡◌, true, List, [], ◌∷◌, ◌++◌, map, All, Option, Some, refl, sym, ap, ◌∙◌, subst, append_assoc}
+use Rattle.std.proofs.Common.{ℕ, ◌≡◌, List, [], ◌∷◌, ◌++◌, map, All, Option, Some, refl, sym, ap, ◌∙◌, subst, append_assoc}
 use Rattle.std.specs.List.Sorted.{IsPermutation}
 use Rattle.std.proofs.lemmas.List.{map-append}
 use Rattle.std.proofs.lemmas.List.Concat.{flat_map-append}
@@ -26,7 +26,7 @@ use Rattle.fb_half.specs.Translations.{entry_by, link_by, ring_links}
 use Rattle.fb_trees.specs.Branches.{Grown}
 use Rattle.fb_trees.specs.Forests.{tree_at, trees_in}
 use Rattle.fb_search.specs.InternalEndings.{beside_match}
-use Rattle.fb_search.specs.InternalGrowing.{GrowingValue, IsGrowing, all_along, grown_ids, tree_by}
+use Rattle.fb_search.specs.InternalGrowing.{GrowingValue, IsGrowing, all_along, grown_ids, tree_by, waiting_in}
 use Rattle.fb_search.specs.InternalSearching.{SearchValue}
 use Rattle.fb_search.proofs.ForestPlaces.{after_by, along_first, before_by, own_state, state_among, trees_after, trees_before, trees_beside, trees_split}
 use Rattle.fb_search.proofs.Linked.{links_reordered}
@@ -172,7 +172,8 @@ module _ (p : Problem) (nodes : List Node) (table : List (Option (List Step))) w
       All-cons IsKeptMatch (beside_match e) (map beside_match es) joined.2 (own_connects root es joined.3)
 
   -- the matched links of trees connect their nodes
-  pub all_connects : (gs : List Grown) → All (λ t. IsTree nodes t.root t.branches) (map (tree_by table) gs) → All IsKeptMatch (tree_matches gs)
+  pub all_connects : (gs : List Grown) → All (λ t. IsTree nodes t.root t.branches) (map (tree_by table) gs)
+      → All IsKeptMatch (tree_matches gs)
   all_connects [] joined = All-nil IsKeptMatch
   all_connects (g ∷ gs) joined =
       All-append IsKeptMatch (map beside_match g.branches) (tree_matches gs)
@@ -196,7 +197,8 @@ module _ (w : GrowingValue) (t : ℕ) (g : Grown) (at : tree_at w.forest t ≡ S
   abbrev rings : List ℕ
   rings = ring_links w.part.nodes w.part.store
 
-  pub among_others : IsForestState (problem_in w.part) (among_trees (before_by w t) (after_by w t) (own_state w g are.state.0))
+  pub among_others : IsForestState (problem_in w.part)
+      (among_trees (before_by w t) (after_by w t) (waiting_in w) (own_state w g are.state.0))
   among_others = subst (IsForestState (problem_in w.part)) (state_among w t g are.state.0 at) are.state.1
 
   abbrev Joined : AnyTree → Type 0
@@ -216,7 +218,7 @@ module _ (w : GrowingValue) (t : ℕ) (g : Grown) (at : tree_at w.forest t ≡ S
     nest = are.state.1.nest;
     search =
         forest_tree (problem_in w.part) w.part.nodes (before_by w t) (after_by w t) (tree_of own) own.rest w.part.matching.unmatched
-        are.state.0 among_others.forest;
+        (waiting_in w) are.state.0 among_others.forest;
     agreed = are.agreed;
     links =
         subst
@@ -240,7 +242,8 @@ module _ (w : GrowingValue) (t : ℕ) (g : Grown) (at : tree_at w.forest t ≡ S
         (All-append (IsKeptMatch (problem_in w.part) w.part.nodes w.part.links) w.part.matching.matches (tree_matches (Before ++ After))
         are.matching.connects connect);
     along = λ newer older e children place steps may.
-        forest_cycle_along (problem_in w.part) (before_by w t) (after_by w t) own newer older e children place steps among_others
+        forest_cycle_along (problem_in w.part) (before_by w t) (after_by w t) (waiting_in w) own newer older e children place steps
+        among_others
         (record {
           tree = may.tree;
           may_split = may.may_split;

@@ -1,44 +1,27 @@
 -- A minus node's empty layer taken off keeps what every search keeps, and leaves less to do.
-use Rattle.std.proofs.Common.{ℕ, ◌≡◌, ◌==◌, ◌<◌, ◌⊎◌, inl, inr, ◌||◌, Bool, true, false, List, [], ◌∷◌, ◌++◌, length, All, Option, Some, None, refl, sym, ap, ◌∙◌, subst, if◌then◌else◌, arith}
+use Rattle.std.proofs.Common.{ℕ, ◌≡◌, ◌==◌, ◌<◌, ◌⊎◌, inl, inr, ◌||◌, Bool, true, false, List, [], ◌∷◌, ◌++◌, length, All, Option, Some, None, refl, sym, ap, ◌∙◌, subst, if◌then◌else◌}
 use Rattle.std.specs.List.{last_or}
 use Rattle.std.proofs.lemmas.Bool.{cases_Bool, false≢true, eqb-true, ne_eqb}
 use Rattle.fb_graph.specs.Parity.{is_in}
 use Rattle.fb_graph.specs.Problem.{Problem, edge_at, touches}
-use Rattle.fb_graph.specs.Limits.{IsWithinLimits}
 use Rattle.fb_graph.specs.Nests.{IsNest}
 use Rattle.fb_graph.specs.Covers.{is_covered_by, passes}
 use Rattle.fb_graph.specs.Dual.{AreUnderOne, Node, all_cuts, cover_of, height_of, is_live, is_outer, taller_node, top_at}
-use Rattle.fb_graph.specs.Moves.{MayUncover, absorbed_nodes, without_top, uncovered_nodes}
-use Rattle.fb_graph.proofs.ChangedNodes.{change}
-use Rattle.fb_graph.proofs.LoweredNests.{kept}
+use Rattle.fb_graph.specs.Moves.{MayUncover, absorbed_nodes, uncovered_nodes}
 use Rattle.fb_graph.proofs.Members.{is_in_pushed}
 use Rattle.fb_graph.proofs.Sets.{is_in-All}
-use Rattle.fb_graph.proofs.TallerNodes.{taller_alike, taller_covers}
-use Rattle.fb_laws.specs.Measures.{IsLower}
+use Rattle.fb_graph.proofs.TallerNodes.{taller_covers}
 use Rattle.fb_laws.specs.NestBridges.{IsGivenUp}
-use Rattle.fb_laws.specs.SearchLayers.{left_to_do}
-use Rattle.fb_graph.specs.Alike.{AreAlike}
 use Rattle.fb_graph.specs.Steps.{Roles}
 use Rattle.fb_laws.proofs.LayeredSearches.{taller_covered}
 use Rattle.fb_laws.proofs.MoveBridges.{uncovered_back}
-use Rattle.fb_laws.proofs.StateMeasures.{uncovered_less}
-use Rattle.fb_laws.proofs.StateMoves.{state_uncovered}
-use Rattle.fb_trees.proofs.Mapped.{minus_moved}
-use Rattle.fb_half.specs.Translations.{link_by}
 use Rattle.fb_obstacles.specs.InternalWatching.{WatchesTaken}
 use Rattle.fb_obstacles.specs.Obstacles.{IsWatched, slack_at}
 use Rattle.fb_obstacles.specs.Watched.{AreBounded, Watched}
 use Rattle.fb_obstacles.proofs.LeftEdges.{watched_at, watched_elsewhere}
 use Rattle.fb_obstacles.proofs.TopLayers.{top_real}
 use Rattle.fb_regions.proofs.Listed.{last_push}
-use Rattle.fb_search.specs.InternalProgress.{GoesOn}
-use Rattle.fb_search.specs.InternalSearching.{IsSearching, SearchValue, problem_of, roles_in, state_at}
-use Rattle.fb_search.proofs.MinusBounds.{minus_changed}
 use Rattle.fb_search.proofs.KeptBounds.{slack_beside}
-use Rattle.fb_search.proofs.KeptNodes.{beside_lower}
-use Rattle.fb_search.proofs.Relayered.{relayered_by, searching_relayered}
-use Rattle.fb_search.proofs.Runs.{roles_by_numbers}
-use Rattle.fb_search.proofs.RolesInTree.{minus_in_tree, not_both}
 
 abbrev name_in : Option ℕ → ℕ
 name_in None = 0
@@ -167,49 +150,3 @@ module _ (p : Problem) (nodes : List Node) (name last : ℕ) (may : MayUncover n
       (subst (λ v. is_in (top_at nodes name) v ≡ true) (sym last_given)
       (ap (λ vs. is_in vs (uncovered_back p nodes name may nest).0) tops
       ∙ is_in_pushed (top_at (uncovered_nodes name nodes) name) (uncovered_back p nodes name may nest).0))
-
--- the search without the layer, and with these edges watched
-abbrev pub lowered : ℕ → Watched → SearchValue → SearchValue
-lowered name watched w = relayered_by (change name without_top) watched w
-
-pub last_below : (w : SearchValue) (name last vertices : ℕ) → IsSearching w → MayUncover w.part.nodes name
-    → last_or None (top_at w.part.nodes name) ≡ Some last → IsWithinLimits (problem_of w)
-    → vertices ≡ (problem_of w).vertices → last < vertices
-last_below w name last vertices are may is limits same =
-    rw same (limits.real_below last (real_last (problem_of w) w.part.nodes name last may are.state.1.search.nest is))
-
-pub searching_lowered : (w : SearchValue) (name last : ℕ) (new : Watched) → IsSearching w → (roles_in w).is_minus name ≡ true
-    → MayUncover w.part.nodes name → last_or None (top_at w.part.nodes name) ≡ Some last
-    → All (λ j. j < new.edge_count) new.edges
-    → WatchesTaken (problem_of w) (uncovered_nodes name w.part.nodes) last w.watched new → IsSearching (lowered name new w)
-searching_lowered w name last new are minus may is within taken =
-    let nest = are.state.1.search.nest in
-    let lower : List Node = uncovered_nodes name w.part.nodes in
-    let given : IsGivenUp w.part.nodes name last = given_last (problem_of w) w.part.nodes name last may nest is in
-    let alike : AreAlike w.part.nodes lower =
-    subst (λ ns. AreAlike ns lower) given.back (taller_alike lower name last given.no_defect).1 in
-    searching_relayered w (change name without_top) new are (kept (problem_of w) w.part.nodes name may nest) alike
-    (state_uncovered (problem_of w) (state_at w are.state.0) name may are.state.1) taken.room
-    (watch_freed (roles_in w) lower name last (λ n. not_both _) minus given.live given.outer given.free (problem_of w)
-    w.watched new taken (subst (λ n. All (λ j. j < n) new.edges) (taken.room ∙ are.room) within)
-    (subst (λ ns. IsWatched (problem_of w) (roles_in w) ns w.watched.edges) (sym given.back) are.watch))
-    (bounded_freed (roles_in w) lower name last (λ n. not_both _) minus given.live given.outer given.free (problem_of w)
-    w.watched new taken (subst (λ ns. (u : ℕ) → height_of (all_cuts lower) u ≡ height_of (all_cuts ns) u) (sym given.back) alike.heights)
-    (subst (λ ns. AreBounded (slack_at (problem_of w) (roles_in w) ns) w.watched) (sym given.back) are.bounds))
-    (minus_changed (roles_in w) name without_top w.part.nodes w.watched new taken.minus (λ n. refl)
-    (λ i d less same minus. omega (arith, (may.bare i d less same).1)) are.minus)
-
-pub goes_on_lowered : (w : SearchValue) (name : ℕ) (new : Watched) → IsSearching w → (roles_in w).is_minus name ≡ true
-    → MayUncover w.part.nodes name → GoesOn w (lowered name new w)
-goes_on_lowered w name new are minus may = record {
-  part = record { job = refl; slot = refl; node = refl };
-  others = λ n. refl;
-  kept = λ n beside. beside_lower w name are (minus_in_tree w.tree name minus) n beside;
-  count = refl;
-  less =
-      subst (λ roles. IsLower (left_to_do (problem_of w) (uncovered_nodes name w.part.nodes) roles true) (left_to_do (problem_of w) w.part.nodes roles false))
-      (roles_by_numbers w)
-      (uncovered_less (problem_of w) (state_at w are.state.0) name false true may
-      (ap (λ names. is_in names name) (minus_moved (link_by w.part.links) w.tree.branches) ∙ minus_in_tree w.tree name minus)
-      are.state.1);
-}

@@ -1,34 +1,13 @@
--- The cycle of a tree that a link closes, and what becomes of the watch and of the unmatched nodes as it becomes a blossom.
+-- What becomes of the watch and of the unmatched nodes as a cycle becomes a blossom.
 use Rattle.std.specs.Prelude.{ℕ, ◌≡◌, ◌≢◌, ◌<◌, ◌≤◌, true, false, List, [], ◌∷◌, length}
 use Rattle.std.specs.List.Sorted.{IsPermutation}
 use Rattle.fb_graph.specs.Parity.{is_in}
 use Rattle.fb_graph.specs.Problem.{Problem, edge_at, touches}
 use Rattle.fb_graph.specs.Dual.{Node, top_at}
-use Rattle.fb_links.specs.declared.cycle.CycleStep.{CycleStep}
-use Rattle.fb_laws.specs.Trees.{Connects}
-use Rattle.fb_laws.specs.Works.{AreMatchedLinks}
 use Rattle.fb_regions.specs.declared.roles.Role.{Role}
 use Rattle.fb_regions.specs.declared.roles.Role.TheVariants.{Minus}
 use Rattle.fb_half.specs.Matchings.{MatchingValue}
-use Rattle.fb_half.specs.Translations.{link_by}
 use Rattle.fb_obstacles.specs.Watched.{AreBounded, Watched}
-use Rattle.fb_trees.specs.Branches.{Grown}
-use Rattle.fb_trees.specs.Rooted.{IsPlus, role_in}
-use Rattle.fb_trees.specs.TreeSteps.{IsCycle}
-use Rattle.fb_search.specs.InternalSearching.{IsSearchingBeside, SearchValue, problem_of}
-
--- The link, which the search keeps beside its own, is tight and leads between two plus nodes.
-pub record Closes (w : SearchValue) (a b closing : ℕ) : Type 0 where
-  pub search : IsSearchingBeside (closing ∷ []) w
-  pub first : IsPlus w.tree a
-  pub second : IsPlus w.tree b
-  pub apart : a ≢ b
-  pub connects : Connects w.part.nodes (link_by w.part.links closing) a b
-  pub tight : AreMatchedLinks (problem_of w) w.part.nodes (link_by w.part.links closing ∷ [])
-
--- the steps of the cycle that the link closes
-abbrev pub IsClosedBy : SearchValue → ℕ → List CycleStep → Type 0
-IsClosedBy w closing steps = (a b : ℕ) × Closes w a b closing × IsCycle w.tree a b closing steps
 
 -- The edges at each minus node among these are watched, and all that were watched before. The bounds of other edges stay right.
 pub record WatchesMinusBy (p : Problem) (nodes : List Node) (role : ℕ → Role) (names : List ℕ) (old new : Watched) : Type 0 where
@@ -41,9 +20,6 @@ pub record WatchesMinusBy (p : Problem) (nodes : List Node) (role : ℕ → Role
       → ((k : ℕ) → ((name v : ℕ) → is_in names name ≡ true → role name ≡ Minus → is_in (top_at nodes name) v ≡ true
       → touches v (edge_at p.edges k) ≡ false) → before k ≤ after k)
       → AreBounded before old → AreBounded after new
-
-abbrev pub WatchesMinus : Problem → List Node → Grown → List ℕ → Watched → Watched → Type 0
-WatchesMinus p nodes tree names old new = WatchesMinusBy p nodes (role_in tree) names old new
 
 -- The new name is listed as unmatched in the place of the old one. Both may be the same.
 pub record IsReplacedBy (old_name new_name : ℕ) (before after : MatchingValue) : Type 0 where

@@ -1,5 +1,6 @@
 -- Several trees that grow together: their value in clauses, and what they keep (Edmonds 1965).
-use Rattle.std.specs.Prelude.{ℕ, ◌≡◌, ◌<◌, List, [], ◌∷◌, ◌++◌, map, length, Option}
+use Rattle.std.specs.Prelude.{ℕ, ◌≡◌, ◌<◌, List, [], ◌∷◌, ◌++◌, filter, map, not, length, Option}
+use Rattle.fb_graph.specs.Parity.{is_in}
 use Rattle.fb_graph.specs.Steps.{Roles}
 use Rattle.fb_links.specs.declared.walk.Step.{Step}
 use Rattle.fb_plan.specs.Plans.{node_count}
@@ -14,12 +15,12 @@ use Rattle.fb_half.specs.Values.{part_of}
 use Rattle.fb_half.specs.Translations.{cycles_by, entry_by, link_by}
 use Rattle.fb_trees.specs.Branches.{Grown}
 use Rattle.fb_trees.specs.Forests.{role_among, trees_in}
-use Rattle.fb_obstacles.specs.Obstacles.{IsWatched, roles_by, slack_at}
+use Rattle.fb_obstacles.specs.Obstacles.{AreMinusBounded, IsWatched, roles_by, slack_at}
 use Rattle.fb_obstacles.specs.Watched.{AreBounded, Watched}
 use Rattle.fb_search.specs.declared.growing.GrowingPieces.{GrowingPieces}
 
 pub record GrowingValue : Type 0 where
-  -- its matches are those of nodes in no tree; its unmatched nodes are the roots of the trees
+  -- its matches are those of nodes in no tree; its unmatched nodes are the roots of the trees, and nodes that wait
   pub part : PartValue
   pub forest : List (Option Grown)
   -- the edges that are looked at
@@ -29,6 +30,14 @@ pub record GrowingValue : Type 0 where
 abbrev pub tree_by : List (Option (List Step)) → Grown → AnyTree
 tree_by table g = record { root = g.root; branches = map (entry_by table) g.branches }
 
+-- the roots of the trees
+abbrev pub roots_in : List (Option Grown) → List ℕ
+roots_in forest = map (λ g. g.root) (trees_in forest)
+
+-- the unmatched nodes that are no roots: they wait
+abbrev pub waiting_in : GrowingValue → List ℕ
+waiting_in w = filter (λ n. not (is_in (roots_in w.forest) n)) w.part.matching.unmatched
+
 -- the trees as the laws see them, if the potentials of their defects have this parity
 abbrev pub forest_state_at : GrowingValue → ℕ → ForestState
 forest_state_at w parity = record {
@@ -37,6 +46,7 @@ forest_state_at w parity = record {
   trees = map (tree_by w.part.links) (trees_in w.forest);
   rest = map (link_by w.part.links) (match_links w.part.matching.matches);
   unmatched = w.part.matching.unmatched;
+  waiting = waiting_in w;
   parity = parity;
 }
 
@@ -72,6 +82,7 @@ pub record IsGrowingBeside (more : List ℕ) (w : GrowingValue) : Type 0 where
   pub watch : IsWatched (problem_in w.part) (roles_among w.forest) w.part.nodes w.watched.edges
   -- no bound is above the slack of its edge
   pub bounds : AreBounded (slack_at (problem_in w.part) (roles_among w.forest) w.part.nodes) w.watched
+  pub minus : AreMinusBounded (roles_among w.forest) w.part.nodes w.watched
 
 -- what is kept between their steps
 abbrev pub IsGrowing : GrowingValue → Type 0

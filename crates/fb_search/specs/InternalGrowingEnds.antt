@@ -1,5 +1,5 @@
 -- How trees that grow together end: what becomes of their nodes, of their links, and of the edges that are watched.
-use Rattle.std.specs.Prelude.{ℕ, ◌≡◌, ◌≤◌, true, false, List, ◌∷◌, ◌++◌, set, All, Option, Some, None}
+use Rattle.std.specs.Prelude.{ℕ, ◌≡◌, ◌<◌, ◌≤◌, true, false, List, ◌∷◌, ◌++◌, length, set, All, Option, Some, None}
 use Rattle.std.specs.List.Sorted.{IsPermutation}
 use Rattle.fb_graph.specs.Parity.{is_in}
 use Rattle.fb_graph.specs.Problem.{Problem, edge_at, touches}
@@ -37,7 +37,10 @@ pub record IsTreeMatched (t : ℕ) (g : Grown) (name : ℕ) (m : MatchingValue) 
 -- The edges at each of these nodes are watched, and all that were watched before. The bounds of other edges stay right.
 pub record WatchesEach (p : Problem) (nodes : List Node) (names : List ℕ) (old new : Watched) : Type 0 where
   pub room : new.edge_count ≡ old.edge_count
+  pub minus : new.nodes ≡ old.nodes
   pub kept : (k : ℕ) → is_in old.edges k ≡ true → is_in new.edges k ≡ true
+  pub near : (name v k : ℕ) → is_in names name ≡ true → is_in (top_at nodes name) v ≡ true → k < length p.edges
+      → touches v (edge_at p.edges k) ≡ true → is_in new.edges k ≡ true
   pub bounds : (before after : ℕ → ℕ)
       → ((k : ℕ) → ((name v : ℕ) → is_in names name ≡ true → is_in (top_at nodes name) v ≡ true
       → touches v (edge_at p.edges k) ≡ false) → before k ≤ after k)

@@ -13,10 +13,9 @@ use Rattle.fb_half.specs.declared.matches.Match.{Match}
 use Rattle.fb_half.specs.Parts.{AreAgreed, PartValue, problem_in}
 use Rattle.fb_half.specs.Translations.{link_by}
 use Rattle.fb_regions.specs.Moves.{node_named}
+use Rattle.fb_regions.specs.declared.roles.Role.{Role}
 use Rattle.fb_regions.specs.declared.roles.Role.TheVariants.{Minus}
 use Rattle.fb_obstacles.specs.Watched.{Watched, has_bound}
-use Rattle.fb_trees.specs.Branches.{Grown}
-use Rattle.fb_trees.specs.Rooted.{role_in}
 use Rattle.fb_trees.specs.TreeSteps.{step}
 
 -- the place of the node's step; the number of all steps if it has none
@@ -85,8 +84,8 @@ pub record EndsAtChild (w : PartValue) (name other link child : ℕ) : Type 0 wh
 
 -- Each minus node among those of the steps is watched, with a bound of at most twice the value of its top layer. Other nodes are
 -- watched as before, and so are the edges.
-pub record EntersWay (nodes : List Node) (tree : Grown) (steps : List CycleStep) (old new : Watched) : Type 0 where
+pub record EntersWay (nodes : List Node) (role : ℕ → Role) (steps : List CycleStep) (old new : Watched) : Type 0 where
   pub same : new ≡ record old { nodes = new.nodes }
-  pub entered : (name : ℕ) → is_in (map (λ s. s.node) steps) name ≡ true → role_in tree name ≡ Minus
+  pub entered : (name : ℕ) → is_in (map (λ s. s.node) steps) name ≡ true → role name ≡ Minus
       → has_bound new.nodes name (2 * (node_named nodes name).top.value) ≡ true
   pub kept : (other most : ℕ) → has_bound old.nodes other most ≡ true → has_bound new.nodes other most ≡ true

@@ -1,22 +1,22 @@
--- A search while its tree grows: its value in clauses, and what it keeps (Edmonds 1965).
+-- A search of one tree, as lemmas see it: those on defects that are matched at once, and those on one tree among several.
 use Rattle.std.specs.Prelude.{ℕ, ◌≡◌, ◌<◌, List, [], ◌++◌, map, length, Option}
 use Rattle.fb_graph.specs.Problem.{Problem}
-use Rattle.fb_graph.specs.Steps.{Roles}
-use Rattle.fb_links.specs.declared.walk.Step.{Step}
+use Rattle.fb_graph.specs.Steps.{Roles, stepped_nodes}
 use Rattle.fb_plan.specs.Plans.{node_count}
 use Rattle.fb_plan.specs.Laws.{IsJob}
 use Rattle.fb_laws.specs.LinkNumbers.{tree_links}
 use Rattle.fb_laws.specs.PartStates.{SearchState, IsSearchState}
 use Rattle.fb_laws.specs.TreeCycles.{nodes_along}
+use Rattle.fb_laws.specs.Trees.{roles_of}
+use Rattle.fb_laws.specs.Works.{names_without}
 use Rattle.fb_half.specs.Matchings.{IsMatchingOf, match_links}
 use Rattle.fb_half.specs.Parts.{AreAgreed, AreLinksOf, PartValue, kept_links, problem_in}
-use Rattle.fb_half.specs.Values.{part_of}
 use Rattle.fb_half.specs.Translations.{cycles_by, entry_by, link_by}
 use Rattle.fb_trees.specs.Branches.{Grown}
 use Rattle.fb_trees.specs.Rooted.{role_in}
 use Rattle.fb_obstacles.specs.Obstacles.{AreMinusBounded, IsWatched, roles_by, slack_at}
 use Rattle.fb_obstacles.specs.Watched.{AreBounded, Watched}
-use Rattle.fb_search.specs.declared.searching.Pieces.{Pieces}
+use Rattle.fb_search.specs.InternalGrowth.{lowered_by}
 
 pub record SearchValue : Type 0 where
   -- its matches are those of nodes outside the tree; the root is one of its unmatched nodes
@@ -72,10 +72,13 @@ pub record IsSearchingBeside (more : List ℕ) (w : SearchValue) : Type 0 where
 abbrev pub IsSearching : SearchValue → Type 0
 IsSearching w = IsSearchingBeside [] w
 
--- the search with other walks by number
-abbrev pub relinked_search : List (Option (List Step)) → SearchValue → SearchValue
-relinked_search links w = record w { part = record w.part { links = links } }
+-- the names of the unmatched nodes beside the root
+abbrev pub unmatched_beside : SearchValue → List ℕ
+unmatched_beside w = names_without w.tree.root (unmatched_in w)
 
--- the search that these pieces are
-abbrev pub search_of : Pieces → SearchValue
-search_of pieces = record { part = part_of pieces.parts; tree = pieces.tree; watched = pieces.watch }
+-- the search after a step of this length
+abbrev pub stepped_by : ℕ → SearchValue → SearchValue
+stepped_by k w = record w {
+  part = record w.part { nodes = stepped_nodes (roles_of w.tree.root w.tree.branches) k w.part.nodes };
+  watched = lowered_by k w.watched;
+}

@@ -1,7 +1,7 @@
 -- Tight edges over which a tree meets the boundary, a node outside it, or itself.
 use Rattle.std.specs.Prelude.{ℕ, ◌≡◌, Some}
 use Rattle.fb_graph.specs.Dual.{cover_of}
-use Rattle.fb_obstacles.specs.Obstacles.{IsBoundary, IsMeet, IsPlusPair}
+use Rattle.fb_obstacles.specs.Obstacles.{IsBoundary, IsMeet}
 use Rattle.fb_search.specs.InternalSearching.{SearchValue, problem_of, roles_in}
 
 -- the tight edge leads from the plus node to the boundary
@@ -17,11 +17,3 @@ pub record Meets (w : SearchValue) (edge plus other : ℕ) : Type 0 where
   pub outer : ℕ
   pub obstacle : IsMeet (problem_of w) (roles_in w) w.part.nodes edge inner outer other
   pub covered : cover_of w.part.nodes inner ≡ Some plus
-
--- the tight edge leads from the one plus node to the other
-pub record IsPairOver (w : SearchValue) (edge first second : ℕ) : Type 0 where
-  pub inner : ℕ
-  pub outer : ℕ
-  pub obstacle : IsPlusPair (problem_of w) (roles_in w) w.part.nodes edge inner outer
-  pub covered : cover_of w.part.nodes inner ≡ Some first
-  pub other : cover_of w.part.nodes outer ≡ Some second

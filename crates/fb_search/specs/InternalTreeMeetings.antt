@@ -9,7 +9,7 @@ use Rattle.fb_half.specs.Parts.{problem_in}
 use Rattle.fb_obstacles.specs.Obstacles.{IsBoundary, IsMeet, IsPlusPair}
 use Rattle.fb_trees.specs.Forests.{IsPlusNode}
 use Rattle.fb_trees.specs.InternalMetWalks.{IsMetWalk}
-use Rattle.fb_search.specs.declared.attaching.Met.{Met}
+use Rattle.fb_search.specs.declared.growing_meets.Met.{Met}
 use Rattle.fb_search.specs.InternalGrowing.{GrowingValue, IsGrowing, roles_among}
 
 -- the tight edge leads from the plus node to the boundary

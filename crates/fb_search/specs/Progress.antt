@@ -23,15 +23,3 @@ pub record IsSearched (root : ℕ) (before after : PartValue) : Type 0 where
   pub kept : AreKept after.matching.unmatched before.nodes after.nodes
   pub fewer : length after.matching.unmatched < length before.matching.unmatched
   pub few : length before.matching.unmatched ≤ length after.matching.unmatched + 2
-
--- Searches from each of these nodes that was still unmatched in its turn, with the counter before and after them: none of
--- them is unmatched any more, and no node that was not. The searches are at most as many as the nodes, and as the nodes
--- that are no longer unmatched, and at least half as many as the latter.
-pub record HasSearchedEach (before : PartValue) (roots : List ℕ) (old new : ℕ) (after : PartValue) : Type 0 where
-  pub part : IsSamePart before after
-  pub matched : (n : ℕ) → is_in after.matching.unmatched n ≡ true
-      → (is_in before.matching.unmatched n ≡ true) × (is_in roots n ≡ false)
-  pub kept : AreKept after.matching.unmatched before.nodes after.nodes
-  pub steps : new + length after.matching.unmatched ≤ old + length before.matching.unmatched
-  pub each : length before.matching.unmatched + 2 * old ≤ length after.matching.unmatched + 2 * new
-  pub few : new ≤ old + length roots

@@ -3,8 +3,8 @@ use fb_obstacles::Watch;
 use fb_trees::Forest;
 use std::marker::Model;
 
-/// Several trees that grow together, one from each unmatched node (Edmonds 1965): the pieces of the half-solved part that
-/// they work on, the trees, and the edges that they look at. A step that may take memory takes them by value and returns
+/// Trees that grow together, one from each of some unmatched nodes (Edmonds 1965): the pieces of the half-solved part that
+/// they work on, the trees, and the edges that they look at. Other unmatched nodes wait. A step that may take memory takes them by value and returns
 /// them, so that nothing half done is left if memory runs out. Any other step changes them in place.
 #[derive(Drop)]
 pub(crate) struct Growing<'a> {

@@ -1,41 +1,35 @@
-//! Trees that begin at all unmatched nodes of a part.
+//! Trees that begin at unmatched nodes of a part.
 
-ghost use Rattle.std.specs.Prelude.{◌≡◌, true, All, IfOk, length};
+ghost use Rattle.std.specs.Prelude.{◌≡◌, true, All, length};
+ghost use Rattle.fb_graph.specs.Certificate.{AreDistinct};
 ghost use Rattle.fb_graph.specs.Dual.{is_live};
+ghost use Rattle.fb_graph.specs.Parity.{is_in};
 ghost use Rattle.fb_half.specs.Parts.{problem_in};
 ghost use Rattle.fb_trees.specs.Forests.{bare_trees};
-ghost use Rattle.fb_search.specs.InternalGrowth.{HasBegunAll, WatchesNodes};
+ghost use Rattle.fb_search.specs.InternalGrowingEnds.{WatchesEach};
+ghost use Rattle.fb_search.specs.InternalGrowth.{HasBegunAt};
 
 use crate::growing::Growing;
-use fb_graph::{NoMemory, Scope};
+use fb_graph::Scope;
 use fb_half::Work;
-use fb_half::both::both;
 use fb_obstacles::{Watch, watch_node};
 use fb_regions::{NodeId, Regions};
 use fb_trees::Forest;
-use std::alloc::Global;
 
 impl<'a> Growing<'a> {
-    /// A tree at every unmatched node of the part, that node alone. Of all edges those at the unmatched nodes are watched.
+    /// The trees of the forest, each an unmatched node of the part alone: the roots, in this order. Of all edges those at the
+    /// roots are watched. The other unmatched nodes wait.
     pub(crate) fn begin(
-        alloc: Global,
         work: Work<'a>,
+        roots: &[NodeId],
+        forest: Forest,
         watch: Watch,
-    ) -> Result<Growing<'a>, NoMemory>
-        requires { watch.edge_count ≡ length (problem_in work).edges }
-        ensures { IfOk result (HasBegunAll work.entry) }
-    {
-        work.keeps();
-        let started = Forest::start(alloc, work.unmatched());
-        let (forest, (work, watch)) = both(started, (work, watch))?;
-        Ok(Growing::begin_with(forest, work, watch))
-    }
-
-    /// The same with the trees already made.
-    fn begin_with(forest: Forest, work: Work<'a>, watch: Watch) -> Growing<'a>
-        requires forest { forest ≡ bare_trees work.matching.unmatched }
+    ) -> Growing<'a>
+        requires forest { forest ≡ bare_trees roots.now }
+        requires distinct { AreDistinct roots.now }
+        requires unmatched { All (λ n. is_in work.matching.unmatched n ≡ true) roots.now }
         requires room { watch.edge_count ≡ length (problem_in work).edges }
-        ensures { HasBegunAll work.entry result }
+        ensures { HasBegunAt roots.now work.entry result }
     {
         work.keeps();
         let mut watch = watch;
@@ -43,7 +37,7 @@ impl<'a> Growing<'a> {
         let parts = work.into_parts();
         let scope = *parts.regions.scope();
         scope.limits();
-        watch_nodes(&mut watch, &parts.regions, parts.matching.unmatched());
+        watch_nodes(&mut watch, &parts.regions, roots);
         watch.keeps();
         Growing {
             parts,
@@ -57,7 +51,7 @@ impl<'a> Growing<'a> {
 fn watch_nodes<S: Scope>(watch: &mut Watch, regions: &Regions<S>, nodes: &[NodeId])
     requires live { All (λ n. is_live regions.now.nodes n ≡ true) nodes.now }
     requires room { watch.old.edge_count ≡ length (S.problem regions.now.scope).edges }
-    ensures { WatchesNodes (S.problem regions.now.scope) regions.now.nodes nodes.now watch.old watch.new }
+    ensures { WatchesEach (S.problem regions.now.scope) regions.now.nodes nodes.now watch.old watch.new }
 {
     for node in nodes {
         watch_node(watch, regions.scope(), regions, *node);

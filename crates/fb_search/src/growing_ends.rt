@@ -2,29 +2,30 @@
 
 ghost use Rattle.std.specs.Prelude.{ℕ, ◌≡◌, [], true, All, length, map, IfOk, OnOk};
 ghost use Rattle.fb_graph.specs.Dual.{is_live};
+ghost use Rattle.fb_graph.specs.Parity.{is_in};
 ghost use Rattle.fb_laws.specs.LinkNumbers.{links_dropped};
 ghost use Rattle.fb_laws.specs.Trees.{minus_names};
 ghost use Rattle.fb_trees.specs.Branches.{Grown};
-ghost use Rattle.fb_trees.specs.Forests.{IsPlusNode, IsTreeOf};
+ghost use Rattle.fb_trees.specs.Forests.{IsPlusNode, IsTreeOf, trees_in};
 ghost use Rattle.fb_half.specs.Values.{HasScope};
 ghost use Rattle.fb_obstacles.specs.declared.obstacle.Obstacle.TheVariants.{Boundary};
 ghost use Rattle.fb_search.specs.InternalEndings.{ended_matches};
 ghost use Rattle.fb_search.specs.InternalGrowing.{GrowingValue, IsGrowing, growing_of};
-ghost use Rattle.fb_search.specs.InternalGrowth.{AreGrowing, Blocks, GrowsOn, IsMatchedThrough};
+ghost use Rattle.fb_search.specs.InternalGrowth.{AreGrowing, Blocks, GrowsOn};
 ghost use Rattle.fb_search.specs.InternalMeetings.{IsBoundaryMatch};
-ghost use Rattle.fb_search.specs.InternalTreeMeetings.{GrowsOut, HasMetTree};
+ghost use Rattle.fb_search.specs.InternalTreeMeetings.{GrowsOut, HasMetTree, MeetsOutside};
 ghost use Rattle.fb_search.specs.InternalGrowingEnds.{IsTreeMatched, MayMatchTree, WatchesEach};
 
-use crate::attaching::Met;
 use crate::ending::{TreeEnd, add_matches, forget_all, push_beside, swapped_along};
 use crate::growing::{Growing, GrowingPieces};
+use crate::growing_meets::Met;
 use crate::growing_pieces::into_growing;
 use fb_graph::{NoMemory, Scope};
 use fb_half::{Match, Matching, Work, far_owner};
 use fb_links::Links;
 use fb_obstacles::{Watch, watch_node};
 use fb_regions::{NodeId, Regions};
-use fb_trees::{Branch, Forest, link_out};
+use fb_trees::{Branch, Forest, link_between, link_out};
 use std::alloc::Global;
 
 impl<'a> Growing<'a> {
@@ -48,14 +49,18 @@ impl<'a> Growing<'a> {
         into_growing(pieces, done)
     }
 
-    /// The part once nothing is unmatched, and the watch that was lent.
-    pub(crate) fn finish(self) -> (Work<'a>, Watch)
-        requires { self.part.matching.unmatched ≡ [] }
-        ensures part { IsMatchedThrough self.entry.part result.0 }
-        ensures room { result.1.edge_count ≡ self.entry.watched.edge_count }
+    /// The part once no tree is left, and the forest and the watch that were lent.
+    pub(crate) fn finish(self) -> (Work<'a>, Forest, Watch)
+        requires { trees_in self.forest ≡ [] }
+        ensures part { result.0 ≡ self.entry.part }
+        ensures room { result.2.edge_count ≡ self.entry.watched.edge_count }
     {
-        let Growing { parts, watch, .. } = self;
-        (Work::from_parts(parts), watch)
+        let Growing {
+            parts,
+            forest,
+            watch,
+        } = self;
+        (Work::from_parts(parts), forest, watch)
     }
 
     /// The plus node from which the edge leads to the boundary.
@@ -103,6 +108,42 @@ fn end_over(
         second: None,
     };
     parts.matching.add_match(alloc, out)?;
+    Ok(())
+}
+
+/// The plus node meets a node that waits over the edge, and is matched with it: the tree of the plus node ends, and is
+/// dissolved.
+pub(crate) fn match_waiting(
+    alloc: Global,
+    pieces: &mut GrowingPieces<'_>,
+    edge: u32,
+    plus: NodeId,
+    other: NodeId,
+) -> Result<(), NoMemory>
+    requires scope { HasScope pieces.old.parts }
+    requires growing { IsGrowing (growing_of pieces.old) }
+    requires meets { MeetsOutside (growing_of pieces.old) edge plus other }
+    requires waits { is_in pieces.old.parts.matching.unmatched other ≡ true }
+    ensures { OnOk result (AreGrowing (growing_of pieces.old) pieces.new) }
+{
+    let GrowingPieces {
+        parts,
+        forest,
+        watch,
+    } = pieces;
+    parts.regions.scope().limits();
+    forest.keeps();
+    let link = link_between(alloc, &parts.regions, &mut parts.links, edge)?;
+    watch_tree(watch, &parts.regions, forest, plus);
+    watch.keeps();
+    match_tree(alloc, &mut parts.matching, &mut parts.links, forest, plus)?;
+    parts.matching.take_unmatched(other);
+    let over = Match {
+        link,
+        first: plus,
+        second: Some(other),
+    };
+    parts.matching.add_match(alloc, over)?;
     Ok(())
 }
 
@@ -166,7 +207,7 @@ fn tree_end_in(
 
 /// Matches the nodes of the plus node's tree, all but this node, by links of the tree, removes the links that match no node
 /// then, and dissolves the tree.
-fn match_tree(
+pub(crate) fn match_tree(
     alloc: Global,
     matching: &mut Matching,
     links: &mut Links,
@@ -192,7 +233,12 @@ fn match_tree(
 
 /// Watches the edges at the minus nodes of the plus node's tree. They limit plus nodes of other trees once this one is
 /// dissolved.
-fn watch_tree<S: Scope>(watch: &mut Watch, regions: &Regions<S>, forest: &Forest, plus: NodeId)
+pub(crate) fn watch_tree<S: Scope>(
+    watch: &mut Watch,
+    regions: &Regions<S>,
+    forest: &Forest,
+    plus: NodeId,
+)
     requires plus { IsPlusNode forest.now plus }
     requires live { (t : ℕ) (g : Grown) → IsTreeOf forest.now plus t g → All (λ n. is_live regions.now.nodes n ≡ true) (minus_names g.branches) }
     requires room { watch.old.edge_count ≡ length (S.problem regions.now.scope).edges }

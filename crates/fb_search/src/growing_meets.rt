@@ -1,33 +1,43 @@
 //! A tree of several meets a node that is in none of them.
 
-ghost use Rattle.std.specs.Prelude.{ℕ, ◌≡◌, true, IfOk, OnOk};
+ghost use Rattle.std.specs.Prelude.{ℕ, ◌≡◌, true, IfOk, MatchOption, OnOk};
 ghost use Rattle.fb_graph.specs.Parity.{is_in};
 ghost use Rattle.fb_half.specs.Matchings.{matched_names, names_of};
 ghost use Rattle.fb_half.specs.Values.{HasScope};
 ghost use Rattle.fb_obstacles.specs.declared.obstacle.Obstacle.TheVariants.{Meet};
 ghost use Rattle.fb_search.specs.InternalGrowing.{GrowingValue, IsGrowing, growing_of};
 ghost use Rattle.fb_search.specs.InternalGrowth.{AreGrowing, Blocks, GrowsOn};
-ghost use Rattle.fb_search.specs.InternalMeetings.{IsCouple};
+ghost use Rattle.fb_search.specs.InternalMeetings.{IsBoundaryMatch, IsCouple};
 ghost use Rattle.fb_search.specs.InternalTreeMeetings.{HasMetTree, MeetsOutside};
 
-use crate::attaching::{Met, mate_of};
 use crate::growing::{Growing, GrowingPieces};
-use crate::growing_ends::release;
+use crate::growing_ends::{match_waiting, release};
 use crate::growing_pieces::into_growing;
 use fb_graph::{NoMemory, Scope};
-use fb_obstacles::watch_node;
+use fb_half::{Match, Standing};
+use fb_obstacles::{enter_minus, watch_node};
 use fb_regions::NodeId;
-use fb_trees::{CycleStep, link_between};
+use fb_trees::{CycleStep, LinkId, link_between};
 use std::alloc::Global;
+
+/// A link that is made from a plus node to a matched one, whose match is taken out.
+#[derive(Clone, Copy)]
+pub(crate) struct Met {
+    pub(crate) plus: NodeId,
+    pub(crate) other: NodeId,
+    pub(crate) link: LinkId,
+    pub(crate) taken: Match,
+}
 
 impl<'a> Growing<'a> {
     /// A tree meets a node in no tree over the edge. A node that is matched to another joins the tree with it, as a minus
-    /// and a plus node; one that is matched to the boundary ends the tree, and is matched with the plus node.
+    /// and a plus node; one that is matched to the boundary, or waits, ends the tree, and is matched with the plus node.
     pub(crate) fn meet(self, alloc: Global, edge: u32) -> Result<Growing<'a>, NoMemory>
         requires { Blocks self (Meet edge) }
         ensures { IfOk result (GrowsOn self.entry) }
     {
         let (plus, other) = self.met_nodes(edge);
+        let standing = self.parts.matching.standing(other);
         let Growing {
             parts,
             forest,
@@ -38,7 +48,10 @@ impl<'a> Growing<'a> {
             forest,
             watch,
         };
-        let done = meet_over(alloc, &mut pieces, edge, plus, other);
+        let done = match standing {
+            Standing::Unmatched(_) => match_waiting(alloc, &mut pieces, edge, plus, other),
+            _ => meet_over(alloc, &mut pieces, edge, plus, other),
+        };
         into_growing(pieces, done)
     }
 }
@@ -74,8 +87,19 @@ fn meet_linked(alloc: Global, pieces: &mut GrowingPieces<'_>, met: Met) -> Resul
     }
 }
 
+/// The node with which the match matches this one; none at the boundary.
+fn mate_of(taken: Match, name: NodeId) -> Option<NodeId>
+    requires { is_in (names_of taken) name ≡ true }
+    ensures { MatchOption result (IsBoundaryMatch taken name) (IsCouple taken name) }
+{
+    match taken.second {
+        Some(second) if second == name => Some(taken.first),
+        second => second,
+    }
+}
+
 /// Makes the link from the plus node over the edge to the matched node, and takes out the match of this node.
-pub(crate) fn link_outside(
+fn link_outside(
     alloc: Global,
     pieces: &mut GrowingPieces<'_>,
     edge: u32,
@@ -102,7 +126,7 @@ pub(crate) fn link_outside(
 }
 
 /// The node and its mate join the tree of the plus node, as a minus node under it and a plus node under that one.
-pub(crate) fn take_couple(
+fn take_couple(
     alloc: Global,
     pieces: &mut GrowingPieces<'_>,
     met: Met,
@@ -125,6 +149,7 @@ pub(crate) fn take_couple(
         link: met.taken.link,
     };
     forest.attach(alloc, met.plus, met.link, met.other, matched, &parts.links)?;
+    enter_minus(watch, &parts.regions, met.other)?;
     watch_node(watch, scope, &parts.regions, mate);
     watch.keeps();
     Ok(())

@@ -9,7 +9,7 @@ ghost use Rattle.fb_search.specs.InternalGrowth.{AreGrowing, Blocks, GrowsOn};
 use crate::ending::{add_matches, forget_all};
 use crate::growing::{Growing, GrowingPieces};
 use crate::growing_pieces::into_growing;
-use crate::opening::{child_at, taken_apart};
+use crate::opening::{child_at, enter_way, taken_apart};
 use fb_graph::{NoMemory, Scope};
 use fb_obstacles::watch_node;
 use fb_regions::NodeId;
@@ -63,5 +63,6 @@ fn open_node(alloc: Global, pieces: &mut GrowingPieces<'_>, node: NodeId) -> Res
     let apart = taken_apart(alloc, &cycle, above, below)?;
     forest.replace(alloc, &[node], &apart.way, &parts.links)?;
     forget_all(&mut parts.links, &apart.left);
+    enter_way(watch, &parts.regions, forest, &apart.way)?;
     add_matches(alloc, &mut parts.matching, &apart.matches)
 }

@@ -1,11 +1,13 @@
 //! Blossoms of trees that grow together: a cycle of one of the trees becomes a blossom, and a minus blossom is opened.
 
-ghost use Rattle.std.specs.Prelude.{◌≡◌, ℕ, true, All, IfOk, OnOk, Some, length, map};
+ghost use Rattle.std.specs.Prelude.{◌≡◌, ◌≢◌, ℕ, true, false, All, IfOk, OnOk, Some, length, map};
+ghost use Rattle.fb_graph.specs.Parity.{is_in};
 ghost use Rattle.fb_graph.specs.Dual.{is_live};
+ghost use Rattle.fb_half.specs.Matchings.{listed_names};
 ghost use Rattle.fb_half.specs.Parts.{problem_in};
 ghost use Rattle.fb_half.specs.Values.{HasScope};
 ghost use Rattle.fb_obstacles.specs.declared.obstacle.Obstacle.TheVariants.{ZeroMinus};
-ghost use Rattle.fb_search.specs.InternalClosings.{WatchesMinusBy};
+ghost use Rattle.fb_search.specs.InternalClosings.{IsReplacedBy, WatchesMinusBy};
 ghost use Rattle.fb_search.specs.InternalGrowing.{IsGrowing, growing_of};
 ghost use Rattle.fb_search.specs.InternalTreeMeetings.{IsGrowingPair};
 ghost use Rattle.fb_search.specs.InternalGrowingRings.{ClosesIn, IsClosedIn};
@@ -13,10 +15,10 @@ ghost use Rattle.fb_search.specs.InternalGrowth.{AreGrowing, Blocks, GrowsOn};
 ghost use Rattle.fb_trees.specs.Branches.{Grown};
 ghost use Rattle.fb_trees.specs.Forests.{ArePlusTogether, IsInside, IsTreeOf, role_among, tree_at};
 
-use crate::closing::{nodes_on, replace_unmatched};
 use crate::growing::{Growing, GrowingPieces};
 use crate::growing_pieces::into_growing;
 use fb_graph::{NoMemory, Scope};
+use fb_half::Matching;
 use fb_obstacles::{Watch, watch_node};
 use fb_regions::{NodeId, Regions, Role};
 use fb_trees::{CycleStep, Forest, LinkId, TreeId, link_between};
@@ -127,6 +129,31 @@ fn join_steps(
     };
     forest.replace(alloc, nodes, &[step], &parts.links)?;
     replace_unmatched(alloc, &mut parts.matching, root, root_of(forest, tree))
+}
+
+/// The nodes of the steps.
+fn nodes_on(alloc: Global, steps: &[CycleStep]) -> Result<Vec<NodeId>, NoMemory>
+    ensures { IfOk result (λ nodes. nodes.items ≡ map (λ s. s.node) steps.now) }
+{
+    steps.iter().map(|step| step.node).collect(alloc)
+}
+
+/// Lists the new name as unmatched in the place of the old one.
+fn replace_unmatched(
+    alloc: Global,
+    matching: &mut Matching,
+    old: NodeId,
+    new: NodeId,
+) -> Result<(), NoMemory>
+    requires listed { is_in matching.old.unmatched old ≡ true }
+    requires fresh { new ≢ old → is_in (listed_names matching.old) new ≡ false }
+    ensures { OnOk result (IsReplacedBy old new matching.old matching.new) }
+{
+    if new != old {
+        matching.take_unmatched(old);
+        matching.add_unmatched(alloc, new)?;
+    }
+    Ok(())
 }
 
 /// The number of the node's tree.

@@ -3,6 +3,7 @@
 ghost use Rattle.std.specs.Prelude.{◌≡◌, ◌≤◌, length};
 ghost use Rattle.fb_graph.specs.Steps.{MayStep};
 ghost use Rattle.fb_half.specs.Parts.{problem_in};
+ghost use Rattle.fb_trees.specs.Forests.{trees_in};
 ghost use Rattle.fb_obstacles.specs.declared.obstacle.Obstacle.TheVariants.{Absorb, LayerEmpty};
 ghost use Rattle.fb_search.specs.InternalGrowing.{roles_among};
 ghost use Rattle.fb_search.specs.InternalGrowth.{Blocks, GrowsOn, grown_by};
@@ -17,7 +18,7 @@ impl Growing<'_> {
     /// Each minus node of all trees shrinks by this much, and then each plus node grows by it. The bounds fall by twice as
     /// much: the slack of an edge falls by at most that.
     pub(crate) fn step(&mut self, by: u64)
-        requires some { 1 ≤ length self.old.part.matching.unmatched }
+        requires some { 1 ≤ length (trees_in self.old.forest) }
         requires may { MayStep (problem_in self.old.part) (roles_among self.old.forest) self.old.part.nodes by }
         ensures { self.new ≡ grown_by by self.old }
     {

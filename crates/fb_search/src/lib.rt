@@ -3,36 +3,25 @@
 
 #![tactic(auto)]
 
-mod advancing;
-mod attaching;
-mod begin;
-mod closing;
-mod dissolving;
 mod ending;
-mod ends;
 mod growing;
+mod growing_all;
 mod growing_begin;
 mod growing_ends;
 mod growing_meets;
 mod growing_openings;
+mod growing_pairs;
 mod growing_pieces;
 mod growing_rings;
 mod growing_steps;
 mod growing_turns;
-mod layers;
-mod met;
+pub mod matching_all;
 mod near;
 mod near_ends;
 mod opening;
-mod outcome;
-mod pieces;
-mod roles;
-mod rounding;
-mod rounds;
 pub mod scratch;
 pub mod searches;
-mod searching;
-mod stepping;
 
+pub use matching_all::match_all_from;
 pub use scratch::Scratch;
-pub use searches::{search, search_each, search_each_from, search_from};
+pub use searches::{search, search_all, search_all_from, search_from};

@@ -13,8 +13,10 @@ ghost use Rattle.fb_search.specs.Progress.{IsSearched};
 
 use crate::ending::add_matches;
 use crate::near::{Near, NearPair, near_of};
+use crate::scratch::Scratch;
 use fb_graph::{NoMemory, Scope};
-use fb_half::{Match, Parts, far_owner};
+use fb_half::both::both;
+use fb_half::{Match, Parts, Work, far_owner};
 use fb_regions::{NodeId, Regions};
 use fb_trees::{link_between, link_out};
 use std::alloc::Global;
@@ -128,4 +130,23 @@ fn near_in(parts: &Parts<'_>, root: NodeId) -> Option<Near>
     ensures { IfSome result (IsNear (problem_in (part_of parts.now)) parts.now.regions.nodes parts.now.matching.unmatched root) }
 {
     near_of(&parts.regions, &parts.matching, root)
+}
+
+/// Matches the root at once if that is possible, and returns whether it is.
+pub(crate) fn match_one_near<'a>(
+    alloc: Global,
+    work: Work<'a>,
+    root: NodeId,
+    scratch: Scratch,
+) -> Result<(bool, Work<'a>, Scratch), NoMemory>
+    requires { is_in work.matching.unmatched root ≡ true }
+    ensures matched { IfOk result (λ r. r.0 ≡ true → IsSearched root work.entry r.1) }
+    ensures unchanged { IfOk result (λ r. r.0 ≡ false → r.1 ≡ work.entry) }
+    ensures scratch { IfOk result (λ r. r.2 ≡ scratch) }
+{
+    work.keeps();
+    let mut parts = work.into_parts();
+    let near = match_near(alloc, &mut parts, root);
+    let (is_matched, (parts, scratch)) = both(near, (parts, scratch))?;
+    Ok((is_matched, Work::from_parts(parts), scratch))
 }

@@ -1,81 +1,33 @@
+//! The cycle of a blossom that is opened, taken apart.
+
 ghost use Rattle.std.specs.Prelude.{◌≡◌, ◌<◌, ℕ, true, false, ◌∷◌, All, IfOk, OnOk, length};
 ghost use Rattle.fb_graph.specs.Dual.{is_live};
 ghost use Rattle.fb_regions.specs.declared.roles.Role.TheVariants.{Minus};
-ghost use Rattle.fb_trees.specs.Rooted.{role_in};
 ghost use Rattle.fb_graph.specs.Parity.{is_in};
 ghost use Rattle.fb_blossoms.specs.Nodes.{IsOuter, defects_at, is_on};
-ghost use Rattle.fb_half.specs.Values.{HasScope, part_of};
-ghost use Rattle.fb_obstacles.specs.Obstacles.{Obstructs};
-ghost use Rattle.fb_obstacles.specs.declared.obstacle.Obstacle.TheVariants.{BlossomEmpty};
+ghost use Rattle.fb_half.specs.Values.{part_of};
 ghost use Rattle.fb_search.specs.InternalOpenings.{EndsAtChild, EntersWay, MayEnter, between_on, couples_on, even_on, links_left, place_on, rest_on, round_on, turned_on, way_on};
-ghost use Rattle.fb_search.specs.InternalPieces.{AreSearching};
-ghost use Rattle.fb_search.specs.InternalProgress.{GoesOn};
-ghost use Rattle.fb_search.specs.InternalSearching.{IsSearching, problem_of, roles_in, search_of};
 
-use crate::ending::{add_matches, forget_all};
-use crate::pieces::into_searching;
-use crate::searching::{Pieces, Searching};
 use fb_blossoms::Blossoms;
 use fb_graph::{NoMemory, Scope};
 use fb_half::{Match, Parts};
 use fb_obstacles::{Watch, enter_minus, watch_node};
-use fb_regions::{NodeId, Regions, Role};
-use fb_trees::{CycleStep, LinkId, Tree};
+use fb_regions::{NodeId, Regions, Role, Roles};
+use fb_trees::{CycleStep, LinkId};
 use std::alloc::Global;
 
-impl<'a> Searching<'a> {
-    /// The minus blossom has one layer, of value 0, and is opened: the children on the even path between its two links
-    /// take its place in the tree, and the others are matched in pairs.
-    pub(crate) fn open(self, alloc: Global, node: NodeId) -> Result<Searching<'a>, NoMemory>
-        requires { Obstructs (problem_of self) (roles_in self) self.part.nodes (BlossomEmpty node) }
-        ensures { IfOk result (GoesOn self.entry) }
-    {
-        let Searching { parts, tree, watch } = self;
-        let mut pieces = Pieces { parts, tree, watch };
-        let done = open_node(alloc, &mut pieces, node);
-        into_searching(pieces, done)
-    }
-}
-
-/// Opens the minus blossom, puts the children on the even path between its two links in its place in the tree, and
-/// matches the others in pairs. All edges at its vertices are watched from now on, and nothing is known of their slacks,
-/// since some of the children become plus.
-fn open_node(alloc: Global, pieces: &mut Pieces<'_>, node: NodeId) -> Result<(), NoMemory>
-    requires scope { HasScope pieces.old.parts }
-    requires search { IsSearching (search_of pieces.old) }
-    requires empty { Obstructs (problem_of (search_of pieces.old)) (roles_in (search_of pieces.old))
-        pieces.old.parts.regions.nodes (BlossomEmpty node) }
-    ensures { OnOk result (AreSearching (search_of pieces.old) pieces.new) }
-{
-    let Pieces { parts, tree, watch } = pieces;
-    let scope = *parts.regions.scope();
-    scope.limits();
-    watch_node(watch, &scope, &parts.regions, node);
-    watch.keeps();
-    let branch = tree.branch(node);
-    let above = child_at(parts, node, branch.tree);
-    let below = child_at(parts, node, branch.matched);
-    parts.regions.split_node(node)?;
-    let cycle = parts.blossoms.open_up(node);
-    let apart = taken_apart(alloc, &cycle, above, below)?;
-    tree.replace(alloc, &[node], &apart.way, &parts.links)?;
-    forget_all(&mut parts.links, &apart.left);
-    enter_way(watch, &parts.regions, tree, &apart.way)?;
-    add_matches(alloc, &mut parts.matching, &apart.matches)
-}
-
 /// Watches the minus nodes among those of the steps.
-fn enter_way<S: Scope>(
+pub(crate) fn enter_way<S: Scope, R: Roles>(
     watch: &mut Watch,
     regions: &Regions<S>,
-    tree: &Tree,
+    roles: &R,
     steps: &[CycleStep],
 ) -> Result<(), NoMemory>
-    requires { All (λ s. role_in tree.now s.node ≡ Minus → is_live regions.now.nodes s.node ≡ true) steps.now }
-    ensures { OnOk result (EntersWay regions.now.nodes tree.now steps.now watch.old watch.new) }
+    requires { All (λ s. R.role_of roles.now s.node ≡ Minus → is_live regions.now.nodes s.node ≡ true) steps.now }
+    ensures { OnOk result (EntersWay regions.now.nodes (R.role_of roles.now) steps.now watch.old watch.new) }
 {
     for step in steps {
-        match tree.role(step.node) {
+        match roles.role(step.node) {
             Role::Minus => enter_minus(watch, regions, step.node)?,
             Role::Plus => continue,
             Role::Out => continue,

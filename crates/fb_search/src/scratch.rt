@@ -2,16 +2,16 @@ ghost use Rattle.std.specs.Prelude.{◌≡◌, [], IfOk, length};
 
 use fb_graph::{NoMemory, Scope};
 use fb_obstacles::Watch;
-use fb_trees::Tree;
+use fb_trees::Forest;
 use std::alloc::Global;
 use std::marker::Model;
 
-/// The scratch space of searches: a watch over the edges of a graph and the room of a tree. It is lent to one search
+/// The scratch space of searches: a watch over the edges of a graph and the room of trees. It is lent to one search
 /// after another, each of which empties it first, at the cost of what it holds. Contracts see its watch.
 #[derive(Drop)]
 pub struct Scratch {
     pub(crate) watch: Watch,
-    pub(crate) tree: Tree,
+    pub(crate) forest: Forest,
     /// How many searches have matched their root with it. It stays at its greatest number.
     pub(crate) matched: u64,
 }
@@ -32,10 +32,9 @@ impl Scratch {
         ensures { IfOk result (λ s. s ≡ record { edge_count = length (S.problem scope.now).edges; edges = []; bounds = []; queued = 0; nodes = [] }) }
     {
         let watch = Watch::new(alloc, scope)?;
-        let tree = Tree::start(alloc, 0)?;
         Ok(Scratch {
             watch,
-            tree,
+            forest: Forest::empty(alloc),
             matched: 0,
         })
     }
@@ -50,17 +49,5 @@ impl Scratch {
         ensures { self.new ≡ self.old }
     {
         self.matched = self.matched.saturating_add(1);
-    }
-
-    /// The same, with this number of searches that have matched their root.
-    pub(crate) fn with_matched(self, matched: u64) -> Scratch
-        ensures { result ≡ self }
-    {
-        let Scratch { watch, tree, .. } = self;
-        Scratch {
-            watch,
-            tree,
-            matched,
-        }
     }
 }

@@ -1,9 +1,10 @@
-ghost use Rattle.std.specs.Prelude.{◌≡◌, ◌+◌, ◌≤◌, true, IfOk, OnErr, length};
+ghost use Rattle.std.specs.Prelude.{◌≡◌, ◌+◌, [], true, IfOk, OnErr, length};
 ghost use Rattle.fb_graph.specs.Parity.{is_in};
 ghost use Rattle.fb_half.specs.Parts.{problem_in};
-ghost use Rattle.fb_search.specs.Progress.{HasSearchedEach, IsSearched};
+ghost use Rattle.fb_search.specs.Progress.{IsSamePart, IsSearched};
 
-use crate::rounds::{Round, match_one, search_round, search_rounds};
+use crate::growing_all::grow_from;
+use crate::near_ends::match_one_near;
 use crate::scratch::Scratch;
 use fb_graph::{NoMemory, Steps};
 use fb_half::Work;
@@ -56,55 +57,47 @@ pub fn search_from<'a, L: Ledger>(
     ensures step { IfOk result (λ after. steps.new ≡ steps.old + 1) }
     ensures kept { OnErr result (steps.new ≡ steps.old) }
 {
-    let matched = scratch.matched().saturating_add(1);
-    let bounded = match_one(alloc, work, root, scratch)?;
-    steps.tick();
-    Ok((bounded.work, bounded.scratch.with_matched(matched)))
+    let (is_matched, work, mut scratch) = match_one_near(alloc, work, root, scratch)?;
+    if is_matched {
+        scratch.count_match();
+        steps.tick();
+        return Ok((work, scratch));
+    }
+    grow_from(alloc, work, &[root], scratch, steps)
 }
 
-/// Searches from the nodes that are still unmatched when their turn comes, in rounds if there are more than one. Trees are
-/// kept small in the first rounds, so that close nodes are matched first. Counts a step for each search that matches its root: at most one for
-/// each of the nodes and for each node that is no longer unmatched, and at least one for every two nodes that are no
-/// longer unmatched.
-pub fn search_each<'a, L: Ledger>(
+/// Matches all unmatched nodes: a tree grows from each of them, all together, until each is matched (Edmonds 1965). Where two
+/// trees meet, the nodes of both are matched. Counts one step for each unmatched node, or none if memory runs out.
+pub fn search_all<'a, L: Ledger>(
     alloc: Global,
     work: Work<'a>,
-    roots: &[NodeId],
     steps: &mut Steps<L>,
 ) -> Result<Work<'a>, NoMemory>
-    ensures searched { IfOk result (HasSearchedEach work.entry roots.now steps.old steps.new) }
-    ensures never_falls { steps.old ≤ steps.new }
+    ensures part { IfOk result (λ after. IsSamePart work.entry after) }
+    ensures none { IfOk result (λ after. after.matching.unmatched ≡ []) }
+    ensures step { IfOk result (λ after. steps.new ≡ steps.old + length work.entry.matching.unmatched) }
+    ensures kept { OnErr result (steps.new ≡ steps.old) }
 {
     let (scratch, work) = with_scratch(alloc, work)?;
-    let (work, _scratch) = search_each_from(alloc, work, roots, scratch, steps)?;
+    let (work, _scratch) = search_all_from(alloc, work, scratch, steps)?;
     Ok(work)
 }
 
-/// The same as `search_each`, with scratch space that is lent and returned, so that one serves many parts of a graph.
-pub fn search_each_from<'a, L: Ledger>(
+/// The same as `search_all`, with scratch space that is lent and returned, so that one serves many parts.
+pub fn search_all_from<'a, L: Ledger>(
     alloc: Global,
     work: Work<'a>,
-    roots: &[NodeId],
     scratch: Scratch,
     steps: &mut Steps<L>,
 ) -> Result<(Work<'a>, Scratch), NoMemory>
     requires room { scratch.edge_count ≡ length (problem_in work).edges }
-    ensures searched { IfOk result (λ after. HasSearchedEach work.entry roots.now steps.old steps.new after.0) }
-    ensures room { IfOk result (λ after. after.1.edge_count ≡ scratch.edge_count) }
-    ensures never_falls { steps.old ≤ steps.new }
+    ensures part { IfOk result (λ r. IsSamePart work.entry r.0) }
+    ensures none { IfOk result (λ r. r.0.matching.unmatched ≡ []) }
+    ensures room { IfOk result (λ r. r.1.edge_count ≡ scratch.edge_count) }
+    ensures step { IfOk result (λ r. steps.new ≡ steps.old + length work.entry.matching.unmatched) }
+    ensures kept { OnErr result (steps.new ≡ steps.old) }
 {
-    if roots.is_empty() {
-        return Ok((work, scratch));
-    }
-    if roots.len() == 1 {
-        let once = search_round(alloc, work, roots, None, scratch, steps)?;
-        return Ok((once.work, once.scratch));
-    }
-    let Round {
-        work,
-        scratch,
-        left,
-    } = search_rounds(alloc, work, roots, scratch, steps)?;
-    let last = search_round(alloc, work, &left, None, scratch, steps)?;
-    Ok((last.work, last.scratch))
+    work.keeps();
+    let roots = Vec::from_slice(alloc, work.unmatched())?;
+    grow_from(alloc, work, &roots, scratch, steps)
 }

@@ -2,23 +2,24 @@
 
 ghost use Rattle.fb_laws.specs.ForestBlossoms.{ForestCycleCounted, ForestStateClosed, ForestStateJoined, ForestStateRounded};
 ghost use Rattle.fb_laws.specs.ForestMeasures.{ForestAbsorbedLess, ForestAttachedLess, ForestClosedLess, ForestOpenedLess, ForestRoundedLess, ForestSteppedLess, ForestUncoveredLess};
-ghost use Rattle.fb_laws.specs.ForestMoves.{ForestStateAbsorbed, ForestStateAttached, ForestStateEnded, ForestStateMet, ForestStateReleased, ForestStateStepped, ForestStateUncovered};
+ghost use Rattle.fb_laws.specs.ForestMoves.{ForestStateAbsorbed, ForestStateAttached, ForestStateEnded, ForestStateMatched, ForestStateMet, ForestStateReleased, ForestStateStepped, ForestStateUncovered, ForestStateWoken};
 ghost use Rattle.fb_laws.specs.ForestOpenings.{ForestCycleAlong, ForestOpenedAlong, ForestStateOpened};
 ghost use Rattle.fb_laws.specs.ForestStates.{ForestMatchOfMet, ForestMateOutside, ForestStateBegins, ForestStateDone, ForestStateFree, ForestStatePermuted, ForestStateRelisted, ForestTight};
 
-/// Trees begin at all unmatched nodes of a part between searches, and with no tree left it is one again, with nothing unmatched.
+/// Trees begin at some of the unmatched nodes of a part between searches, and the others wait. With no tree left it is one again,
+/// and the unmatched nodes are those that wait.
 pub fn forest_state_begins()
     ensures begins { ForestStateBegins }
     ensures done { ForestStateDone }
 {}
 
-/// The order of trees, of links and of unmatched names doesn't matter.
+/// The order of trees, of links, of unmatched names and of those that wait doesn't matter.
 pub fn forest_state_reordered()
     ensures permuted { ForestStatePermuted }
     ensures relisted { ForestStateRelisted }
 {}
 
-/// All links that are kept are tight. A node in no tree is matched beside the trees, and so is its mate.
+/// All links that are kept are tight. A node that is in no tree and doesn't wait is matched beside the trees, and so is its mate.
 pub fn forest_state_links()
     ensures tight { ForestTight }
     ensures met { ForestMatchOfMet }
@@ -37,15 +38,19 @@ pub fn forest_state_layers()
     ensures uncovered { ForestStateUncovered }
 {}
 
-/// Two matched nodes attached to one of the trees keep the state.
+/// Two matched nodes attached to one of the trees keep the state, and so does a tree that begins at a node that waits, once one of
+/// the others meets it.
 pub fn forest_state_attached()
-    ensures { ForestStateAttached }
+    ensures attached { ForestStateAttached }
+    ensures woken { ForestStateWoken }
 {}
 
-/// A tree that ends at the boundary, or at a node that was matched to it, is dissolved, and so are two that meet. The others stay.
+/// A tree that ends at the boundary, at a node that was matched to it, or at one that waits is dissolved, and so are two that meet.
+/// The others stay.
 pub fn forest_state_ended()
     ensures boundary { ForestStateEnded }
     ensures released { ForestStateReleased }
+    ensures waiting { ForestStateMatched }
     ensures met { ForestStateMet }
 {}
 

@@ -1,10 +1,12 @@
-//! Several trees that grow at once, from all unmatched nodes (Edmonds 1965).
+//! Several trees that grow at once, from some or all unmatched nodes (Edmonds 1965).
 
-ghost use Rattle.fb_laws.specs.Forests.{ForestAttached, ForestBegins, ForestDone, ForestEnded, ForestFirst, ForestLevel, ForestMet, ForestReleased, ForestRoles, ForestStepped, ForestTree, MatchingRerooted};
+ghost use Rattle.fb_laws.specs.Forests.{ForestAttached, ForestBegins, ForestDone, ForestEnded, ForestFirst, ForestLevel, ForestMet, ForestReleased, ForestRoles, ForestStepped, ForestTree, ForestWoken, MatchingRerooted};
 
-/// A tree begins at every unmatched node. The order of the trees doesn't matter.
+/// Trees begin at some of the unmatched nodes, and the others wait. A tree begins at one that waits, once another tree meets
+/// it. The order of the trees doesn't matter.
 pub fn forest_begins()
     ensures begins { ForestBegins }
+    ensures woken { ForestWoken }
     ensures first { ForestFirst }
 {}
 
@@ -27,7 +29,7 @@ pub fn forest_attached()
 {}
 
 /// Any plus node of a tree may be its root. So two trees that meet are matched and dissolved, as is one that meets the
-/// boundary or a node matched to it; the others stay. With no tree left nothing is unmatched.
+/// boundary or a node matched to it; the others stay. With no tree left only nodes that wait are unmatched.
 pub fn forest_ended()
     ensures rerooted { MatchingRerooted }
     ensures met { ForestMet }

@@ -1,24 +1,20 @@
 -- The branches of a tree in their turns: each minus node shrinks, then the root and each other plus node grow.
-use Rattle.std.proofs.Common.{ℕ, suc, ◌≡◌, ◌+◌, ◌<◌, ◌≤◌, ◌⊎◌, inl, inr, true, false, List, [], ◌∷◌, ◌++◌, length, take, drop, get_or, refl, sym, ap, ◌∙◌, subst, arith, map, reverse}
+use Rattle.std.proofs.Common.{ℕ, ◌≡◌, ◌≤◌, true, false, List, [], ◌∷◌, ◌++◌, length, take, drop, refl, sym, ap, ◌∙◌, subst, map, reverse}
 use Rattle.std.proofs.lemmas.Bool.{false≢true}
-use Rattle.std.proofs.lemmas.List.{get_or-map, length-map, map_more, take-append-drop, take-map, take_all}
-use Rattle.std.proofs.lemmas.List.Sorted.{IsPermutation-sym, IsPermutation-append_comm, IsPermutation-cons, IsPermutation-map, IsPermutation-reverse, IsPermutation-trans}
+use Rattle.std.proofs.lemmas.List.{take-append-drop, take_all}
+use Rattle.std.proofs.lemmas.List.Sorted.{IsPermutation-append_comm, IsPermutation-cons, IsPermutation-map, IsPermutation-reverse, IsPermutation-trans}
 use Rattle.fb_graph.specs.Parity.{is_in}
 use Rattle.fb_graph.specs.Problem.{Problem}
-use Rattle.fb_graph.specs.Certificate.{AreDistinct}
 use Rattle.fb_graph.specs.Dual.{AllowsGrowth, IsCrossed, Node, change_at, is_live, is_outer, thicker_node, top_at}
 use Rattle.fb_graph.specs.Steps.{MayStep, stepped_nodes}
-use Rattle.fb_graph.specs.Turns.{thinner_node}
-use Rattle.fb_graph.proofs.Sets.{is_in-cases, is_in-head, is_in-tail, is_in_at}
+use Rattle.fb_graph.proofs.Sets.{is_in-head}
 use Rattle.fb_graph.proofs.StepTurns.{no_turn, same_roles}
 use Rattle.fb_laws.specs.Trees.{minus_names, plus_names, roles_of}
-use Rattle.fb_laws.proofs.OpenedBlossoms.{distinct_permuted, same_permuted}
-use Rattle.fb_regions.specs.Moves.{node_named}
-use Rattle.fb_regions.proofs.Listed.{not_before}
+use Rattle.fb_laws.proofs.OpenedBlossoms.{same_permuted}
 use Rattle.fb_trees.specs.Branches.{Grown, entries_of, entry_of}
 use Rattle.fb_trees.specs.declared.branch.Branch.{Branch}
 use Rattle.fb_trees.specs.InternalSteps.{AreOver, IsTreeOver, roles_by_names}
-use Rattle.fb_trees.proofs.NodeTurns.{grown_turn, minus_turn, plus_turn, shrunk_turn}
+use Rattle.fb_trees.proofs.NodeTurns.{grown_turn, plus_turn}
 use Rattle.fb_graph.proofs.Floods.{is_in-left}
 use Rattle.std.specs.List.Sorted.{IsPermutation}
 
@@ -77,58 +73,6 @@ module _ (p : Problem) (t : Grown) (nodes : List Node) (are : IsTreeOver p t nod
       sym (same_permuted (t.root ∷ plus_of bs) (plus_names t.root (entries_of bs)) (plus_moved t.root bs) n)
       ∙ ap (λ es. is_in (plus_names t.root es) n) read
 
-  distinct_minus : AreDistinct (minus_of bs)
-  distinct_minus =
-      distinct_permuted (minus_names (entries_of bs)) (minus_of bs)
-      (IsPermutation-sym (minus_of bs) (minus_names (entries_of bs)) (minus_moved bs))
-      (subst (λ es. AreDistinct (minus_names es)) (sym read) are.minus)
-
-  distinct_plus : AreDistinct (t.root ∷ plus_of bs)
-  distinct_plus =
-      distinct_permuted (plus_names t.root (entries_of bs)) (t.root ∷ plus_of bs)
-      (IsPermutation-sym (t.root ∷ plus_of bs) (plus_names t.root (entries_of bs)) (plus_moved t.root bs))
-      (subst (λ es. AreDistinct (plus_names t.root es)) (sym read) are.plus)
-
-  minus_at : (i : ℕ) (d : Branch) → i < length bs → get_or (minus_of bs) i 0 ≡ (get_or bs i d).minus
-  minus_at i d less = get_or-map (λ b. b.minus) bs i d 0 less
-
-  plus_at : (i : ℕ) (d : Branch) → i < length bs → get_or (plus_of bs) i 0 ≡ (get_or bs i d).plus
-  plus_at i d less = get_or-map (λ b. b.plus) bs i d 0 less
-
-  is_minus : (i : ℕ) (d : Branch) → i < length bs → is_in (minus_names t.branches) (get_or bs i d).minus ≡ true
-  is_minus i d less =
-      sym (same_minus (get_or bs i d).minus)
-      ∙ subst (λ n. is_in (minus_of bs) n ≡ true) (minus_at i d less)
-      (is_in_at (minus_of bs) i 0 (omega (arith, less, length-map bs (λ b. b.minus))))
-
-  is_plus : (i : ℕ) (d : Branch) → i < length bs → is_in (plus_names t.root t.branches) (get_or bs i d).plus ≡ true
-  is_plus i d less =
-      sym (same_plus (get_or bs i d).plus)
-      ∙ is_in-tail t.root (plus_of bs) (get_or bs i d).plus
-      (subst (λ n. is_in (plus_of bs) n ≡ true) (plus_at i d less)
-      (is_in_at (plus_of bs) i 0 (omega (arith, less, length-map bs (λ b. b.plus)))))
-
-  new_minus : (i : ℕ) (d : Branch) → i < length bs → is_in (minus_of (take i bs)) (get_or bs i d).minus ≡ false
-  new_minus i d less =
-      subst (λ l. is_in l (get_or bs i d).minus ≡ false) (take-map (λ b. b.minus) i bs)
-      (subst (λ n. is_in (take i (minus_of bs)) n ≡ false) (minus_at i d less)
-      (not_before (minus_of bs) i distinct_minus (omega (arith, less, length-map bs (λ b. b.minus)))))
-
-  new_plus : (i : ℕ) (d : Branch) → i < length bs → is_in (t.root ∷ plus_of (take i bs)) (get_or bs i d).plus ≡ false
-  new_plus i d less =
-      subst (λ l. is_in (t.root ∷ l) (get_or bs i d).plus ≡ false) (take-map (λ b. b.plus) i bs)
-      (subst (λ n. is_in (t.root ∷ take i (plus_of bs)) n ≡ false) (plus_at i d less)
-      (not_before (t.root ∷ plus_of bs) (suc i) distinct_plus (omega (arith, less, length-map bs (λ b. b.plus)))))
-
-  plus_before : (i n : ℕ) → is_in (t.root ∷ plus_of (take i bs)) n ≡ true → is_in (plus_names t.root t.branches) n ≡ true
-  plus_before i n within = sym (same_plus n) ∙ by (is_in-cases t.root (plus_of (take i bs)) n within)
-    where
-      by : (t.root ≡ n) ⊎ (is_in (plus_of (take i bs)) n ≡ true) → is_in (t.root ∷ plus_of bs) n ≡ true
-      by (inl same) = subst (λ m. is_in (t.root ∷ plus_of bs) m ≡ true) same (is_in-head t.root (plus_of bs))
-      by (inr there) =
-          is_in-tail t.root (plus_of bs) n
-          (before_is_in (plus_of bs) i n (subst (λ l. is_in l n ≡ true) (sym (take-map (λ b. b.plus) i bs)) there))
-
   root_is_plus : is_in (plus_names t.root t.branches) t.root ≡ true
   root_is_plus = sym (same_plus t.root) ∙ is_in-head t.root (plus_of bs)
 
@@ -137,20 +81,6 @@ module _ (p : Problem) (t : Grown) (nodes : List Node) (are : IsTreeOver p t nod
 
   pub none_yet : nodes ≡ stepped_nodes (roles_by_names [] (minus_of (take 0 bs))) k nodes
   none_yet = sym (no_turn k nodes)
-
-  pub minus_may : (i : ℕ) (d : Branch) → i < length bs
-      → (is_live (stepped_nodes (roles_by_names [] (minus_of (take i bs))) k nodes) (get_or bs i d).minus ≡ true)
-      × (is_outer (stepped_nodes (roles_by_names [] (minus_of (take i bs))) k nodes) (get_or bs i d).minus ≡ true)
-      × (k ≤ (node_named (stepped_nodes (roles_by_names [] (minus_of (take i bs))) k nodes) (get_or bs i d).minus).top.value)
-  minus_may i d less =
-      minus_turn p (plus_names t.root t.branches) (minus_names t.branches) nodes over (minus_of (take i bs)) k (get_or bs i d).minus may (is_minus i d less) (new_minus i d less)
-
-  pub minus_done : (i : ℕ) (d : Branch) → i < length bs
-      → change_at (get_or bs i d).minus (thinner_node k) (stepped_nodes (roles_by_names [] (minus_of (take i bs))) k nodes)
-      ≡ stepped_nodes (roles_by_names [] (minus_of (take (i + 1) bs))) k nodes
-  minus_done i d less =
-      shrunk_turn (minus_of (take i bs)) k (get_or bs i d).minus nodes (new_minus i d less)
-      ∙ ap (λ l. stepped_nodes (roles_by_names [] l) k nodes) (sym (map_more (λ b. b.minus) bs i d less))
 
   pub root_may : (i : ℕ) → length bs ≤ i
       → (is_live (stepped_nodes (roles_by_names [] (minus_of (take i bs))) k nodes) t.root ≡ true)
@@ -168,23 +98,6 @@ module _ (p : Problem) (t : Grown) (nodes : List Node) (are : IsTreeOver p t nod
   root_done i all =
       ap (λ l. change_at t.root (thicker_node k) (stepped_nodes (roles_by_names [] (minus_of l)) k nodes)) (take_all i bs all)
       ∙ grown_turn [] (minus_of bs) k t.root nodes refl (not_minus t.root root_is_plus)
-
-  pub plus_may : (i : ℕ) (d : Branch) → i < length bs
-      → (is_live (stepped_nodes (roles_by_names (t.root ∷ plus_of (take i bs)) (minus_of bs)) k nodes) (get_or bs i d).plus ≡ true)
-      × (is_outer (stepped_nodes (roles_by_names (t.root ∷ plus_of (take i bs)) (minus_of bs)) k nodes) (get_or bs i d).plus ≡ true)
-      × IsCrossed p (top_at (stepped_nodes (roles_by_names (t.root ∷ plus_of (take i bs)) (minus_of bs)) k nodes) (get_or bs i d).plus)
-      × AllowsGrowth p (stepped_nodes (roles_by_names (t.root ∷ plus_of (take i bs)) (minus_of bs)) k nodes) (top_at (stepped_nodes (roles_by_names (t.root ∷ plus_of (take i bs)) (minus_of bs)) k nodes) (get_or bs i d).plus) k
-  plus_may i d less =
-      plus_turn p (plus_names t.root t.branches) (minus_names t.branches) nodes over (t.root ∷ plus_of (take i bs)) (minus_of bs) k (get_or bs i d).plus may same_minus (plus_before i)
-      (is_plus i d less) (new_plus i d less)
-
-  pub plus_done : (i : ℕ) (d : Branch) → i < length bs
-      → change_at (get_or bs i d).plus (thicker_node k) (stepped_nodes (roles_by_names (t.root ∷ plus_of (take i bs)) (minus_of bs)) k nodes)
-      ≡ stepped_nodes (roles_by_names (t.root ∷ plus_of (take (i + 1) bs)) (minus_of bs)) k nodes
-  plus_done i d less =
-      grown_turn (t.root ∷ plus_of (take i bs)) (minus_of bs) k (get_or bs i d).plus nodes (new_plus i d less)
-      (not_minus (get_or bs i d).plus (is_plus i d less))
-      ∙ ap (λ l. stepped_nodes (roles_by_names (t.root ∷ l) (minus_of bs)) k nodes) (sym (map_more (λ b. b.plus) bs i d less))
 
   pub all_done : (i : ℕ) → length bs ≤ i
       → stepped_nodes (roles_by_names (t.root ∷ plus_of (take i bs)) (minus_of bs)) k nodes

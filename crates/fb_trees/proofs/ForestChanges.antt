@@ -7,7 +7,7 @@ use Rattle.fb_regions.specs.InternalPlaces.{place_in}
 use Rattle.fb_laws.specs.Trees.{EntryOf, tree_names}
 use Rattle.fb_trees.specs.Branches.{Grown}
 use Rattle.fb_trees.specs.Forests.{IsOutside, IsTreeOf, tree_at}
-use Rattle.fb_trees.specs.InternalForests.{IsKeptForest, MayRebuild, holds}
+use Rattle.fb_trees.specs.InternalForests.{IsKeptForest}
 use Rattle.fb_trees.specs.InternalPlaces.{has_branch, place_of, place_or}
 use Rattle.fb_trees.specs.Rooted.{IsRooted, attached_grown, is_node}
 use Rattle.fb_trees.proofs.ForestsKept.{IsChange}

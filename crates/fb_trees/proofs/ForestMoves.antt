@@ -2,19 +2,20 @@
 use Rattle.std.proofs.Common.{ℕ, ◌≡◌, ◌≢◌, ◌==◌, ◌||◌, ◌⊎◌, cond, Bool, true, false, List, [], ◌∷◌, ◌++◌, get_or, set, length, map, Option, Some, None, Result, Ok, Err, OnOk, OnErr, refl, sym, ap, ◌∙◌, subst, if◌then◌else◌}
 use Rattle.std.proofs.lemmas.Bool.{ne_eqb, or_from}
 use Rattle.std.proofs.lemmas.List.{map-set, set-get_or}
-use Rattle.std.proofs.lemmas.Option.{none-some, same_Some}
+use Rattle.std.proofs.lemmas.Option.{none-some}
 use Rattle.fb_graph.specs.Parity.{is_in}
 use Rattle.fb_regions.specs.InternalPlaces.{place_in}
-use Rattle.fb_laws.specs.Trees.{EntryOf, tree_names}
+use Rattle.fb_laws.specs.Trees.{tree_names}
 use Rattle.fb_trees.specs.declared.branch.Branch.{Branch}
 use Rattle.fb_trees.specs.declared.one_tree.OneTree.{OneTree}
 use Rattle.fb_trees.specs.Branches.{Grown, entries_of, entry_of}
-use Rattle.fb_trees.specs.Forests.{AreRootedApart, IsOutside, IsTreeOf, tree_at}
+use Rattle.fb_trees.specs.Forests.{IsOutside, IsTreeOf, tree_at, trees_in}
 use Rattle.fb_trees.specs.InternalForests.{IsKeptForest, IsRebuilt, grown_of, seen}
-use Rattle.fb_trees.specs.InternalPlaces.{has_branch, place_of, place_or}
+use Rattle.fb_trees.specs.InternalPlaces.{has_branch}
 use Rattle.fb_trees.specs.Rooted.{IsPlus, IsRooted, attached_grown, is_node}
 use Rattle.fb_trees.proofs.ForestChanges.{IsTakenOut, attached_change, dissolved_change, rebuilt_change}
 use Rattle.fb_trees.proofs.ForestReads.{seen_is, tree_read}
+use Rattle.fb_trees.proofs.ForestsCounted.{counted_same}
 use Rattle.fb_trees.proofs.ForestsKept.{kept_apart, kept_changed, kept_same, tree_is}
 use Rattle.fb_trees.proofs.Lookups.{entries_push, length_entries}
 
@@ -198,3 +199,19 @@ module _ (trees : List OneTree) (owners places : List (Option ℕ)) (kept : IsKe
       → OnErr result (map grown_of (set trees t after) ≡ map grown_of trees)
   unbuilt_view (Ok u) after err = tt
   unbuilt_view (Err e) after err = same_view after (ap (λ o. o.root) err) (ap (λ o. o.live) err) (ap (λ o. o.branches.items) err)
+
+  -- as many trees are left where the tree stays one
+  still_counted : (after : OneTree) → after.live ≡ true → (left : ℕ) → left ≡ length (trees_in (map grown_of trees))
+      → left ≡ length (trees_in (map grown_of (set trees t after)))
+  still_counted after live left counted =
+      counted_same (map grown_of trees) t g at left counted (map grown_of (set trees t after)) (seen after) (rebuilt_view_of after live)
+
+  pub attached_counted : (after : OneTree) → after.live ≡ one.live → (left : ℕ) → left ≡ length (trees_in (map grown_of trees))
+      → left ≡ length (trees_in (map grown_of (set trees t after)))
+  attached_counted after live = still_counted after (live ∙ live_is one g here)
+
+  pub rebuilt_counted : {T E : Type 0} (result : Result T E) (after new : OneTree) → new.live ≡ true → OnOk result (after ≡ new)
+      → OnErr result (after ≡ one) → (left : ℕ) → left ≡ length (trees_in (map grown_of trees))
+      → left ≡ length (trees_in (map grown_of (set trees t after)))
+  rebuilt_counted (Ok u) after new live ok err = still_counted after (ap (λ o. o.live) ok ∙ live)
+  rebuilt_counted (Err e) after new live ok err = attached_counted after (ap (λ o. o.live) err)

@@ -1,5 +1,5 @@
 -- What a forest has at the number of a tree.
-use Rattle.std.proofs.Common.{ℕ, zero, suc, ◌≡◌, ◌<◌, ◌==◌, ◌||◌, cond, Bool, true, false, List, [], ◌∷◌, ◌++◌, get_or, length, map, Option, Some, None, Vec, Global, refl, sym, ap, ◌∙◌, subst, if◌then◌else◌}
+use Rattle.std.proofs.Common.{ℕ, zero, suc, ◌≡◌, ◌<◌, ◌==◌, ◌||◌, cond, Bool, true, false, List, [], ◌∷◌, ◌++◌, get_or, length, map, Option, Some, None, Vec, Global, sym, ap, ◌∙◌, subst, if◌then◌else◌}
 use Rattle.std.proofs.lemmas.Bool.{both_ways, or_parts}
 use Rattle.std.proofs.lemmas.List.{get_or-map, length-map, map-append}
 use Rattle.std.proofs.lemmas.Option.{none-some, same_Some}
@@ -14,15 +14,6 @@ use Rattle.fb_trees.specs.InternalPlaces.{IsViewed}
 use Rattle.fb_trees.specs.Rooted.{IsPlus, bare, is_node}
 use Rattle.fb_trees.proofs.ForestsKept.{kept_added, there_below, tree_is}
 use Rattle.fb_trees.proofs.Names.{minus_in_names, plus_in_tree}
-
-pub kept_none : IsKeptForest [] [] []
-kept_none = record {
-  rooted = λ t g at. absurd (none-some g at);
-  owned = λ t name g is. absurd (none-some g is.at);
-  owner = λ t name is. absurd (none-some t is);
-  placed = λ t name g is. absurd (none-some g is.at);
-  free = λ name is. refl;
-}
 
 pub seen_is : (o : OneTree) (g : Grown) → grown_of o ≡ Some g → seen o ≡ g
 seen_is o g is = by o.live is
@@ -66,6 +57,14 @@ viewed_one trees owners places kept t g at one is branches read table same =
     (viewed (map grown_of trees) owners places kept t g at)))
 
 -- the tree of one more root
+pub added_view : (trees : List OneTree) (root : ℕ) (after : List OneTree) (branches : Vec Branch Global)
+    → after ≡ trees ++ record { root = root; branches = branches; live = true } ∷ [] → branches.items ≡ []
+    → map grown_of after ≡ map grown_of trees ++ Some (bare root) ∷ []
+added_view trees root after branches pushed none =
+    ap (map grown_of) pushed
+    ∙ (map-append grown_of trees (record { root = root; branches = branches; live = true } ∷ [])
+    ∙ ap (λ l. map grown_of trees ++ Some (record { root = root; branches = entries_of l }) ∷ []) none)
+
 pub added_one : (trees : List OneTree) (owners places : List (Option ℕ)) → IsKeptForest (map grown_of trees) owners places → (root : ℕ)
     → IsOutside (map grown_of trees) root → (count : ℕ) → count ≡ length trees → (after_owners : List (Option ℕ))
     → ((name : ℕ) → place_in after_owners name ≡ (if root == name then Some count else place_in owners name))
@@ -74,10 +73,7 @@ pub added_one : (trees : List OneTree) (owners places : List (Option ℕ)) → I
     → IsKeptForest (map grown_of after) after_owners places
 added_one trees owners places kept root outside count count_is after_owners entries after branches pushed none =
     subst (λ f. IsKeptForest f after_owners places)
-    (sym
-    (ap (map grown_of) pushed
-    ∙ (map-append grown_of trees (record { root = root; branches = branches; live = true } ∷ [])
-    ∙ ap (λ l. map grown_of trees ++ Some (record { root = root; branches = entries_of l }) ∷ []) none)))
+    (sym (added_view trees root after branches pushed none))
     (kept_added (map grown_of trees) owners places after_owners root kept outside
     (λ name.
     entries name

@@ -1,11 +1,10 @@
 -- The role of a node of a forest is the one that its own tree gives.
-use Rattle.std.proofs.Common.{ℕ, zero, suc, ◌≡◌, ◌==◌, ◌||◌, ◌⊎◌, inl, inr, cond, Bool, true, false, List, [], ◌∷◌, ◌++◌, get_or, Option, Some, None, refl, sym, ap, ◌∙◌}
-use Rattle.std.proofs.lemmas.Bool.{both_ways, cases_Bool, false≢true, false_from_ne_true, or_cases}
+use Rattle.std.proofs.Common.{ℕ, zero, suc, ◌≡◌, ◌||◌, cond, Bool, true, false, List, [], ◌∷◌, ◌++◌, Option, Some, None, refl, sym, ap, ◌∙◌}
+use Rattle.std.proofs.lemmas.Bool.{both_ways, false≢true, false_from_ne_true}
 use Rattle.std.proofs.lemmas.Option.{none-some, same_Some}
 use Rattle.fb_graph.specs.Parity.{is_in}
 use Rattle.fb_graph.proofs.Floods.{is_in-left, is_in-right}
 use Rattle.fb_graph.proofs.Members.{is_in-append}
-use Rattle.fb_regions.specs.declared.roles.Role.{Role}
 use Rattle.fb_regions.specs.declared.roles.Role.TheVariants.{Plus, Minus, Out}
 use Rattle.fb_laws.specs.Trees.{minus_names, plus_names}
 use Rattle.fb_trees.specs.Branches.{Grown}

@@ -1,5 +1,5 @@
 -- The trees of a forest in their turns: all minus nodes shrink, then all plus nodes grow.
-use Rattle.std.proofs.Common.{ℕ, zero, suc, ◌≡◌, ◌+◌, ◌<◌, ◌≤◌, ◌||◌, ◌⊎◌, inl, inr, true, false, List, [], ◌∷◌, ◌++◌, length, take, drop, get_or, map, Option, Some, None, refl, sym, ap, ap₂, ◌∙◌, subst, append_assoc, arith}
+use Rattle.std.proofs.Common.{ℕ, ◌≡◌, ◌+◌, ◌<◌, ◌≤◌, ◌||◌, List, [], ◌∷◌, ◌++◌, length, take, drop, Option, Some, None, refl, sym, ap, ◌∙◌, subst, append_assoc}
 use Rattle.std.proofs.lemmas.List.{drop_more, take_all, take_more, take-append-drop}
 use Rattle.std.proofs.lemmas.List.Sorted.{IsPermutation-append_right, IsPermutation-sym}
 use Rattle.std.specs.List.Sorted.{IsPermutation}
@@ -18,7 +18,7 @@ use Rattle.fb_laws.proofs.OpenedBlossoms.{distinct_permuted, same_permuted}
 use Rattle.fb_trees.specs.declared.branch.Branch.{Branch}
 use Rattle.fb_trees.specs.Branches.{Grown, entries_of}
 use Rattle.fb_trees.specs.Forests.{all_minus, all_plus, all_roles, tree_at, trees_in}
-use Rattle.fb_trees.specs.InternalSteps.{AreOver, AreTreesOver, IsGrowing, IsShrinking, roles_by_names}
+use Rattle.fb_trees.specs.InternalSteps.{AreTreesOver, IsGrowing, IsShrinking, roles_by_names}
 use Rattle.fb_trees.proofs.BranchTurns.{minus_moved, minus_of, plus_moved, plus_of}
 use Rattle.fb_trees.proofs.ListTurns.{append_none}
 

@@ -6,8 +6,10 @@ pub mod ForestReads
 pub mod ForestReplaced
 pub mod ForestRoles
 pub mod ForestTurns
+pub mod ForestsCounted
 pub mod ForestsKept
 pub mod ListTurns
+pub mod LoneTrees
 pub mod Lookups
 pub mod Mapped
 pub mod Marking

@@ -1,5 +1,5 @@
 -- Nodes of one tree of several in their turns: its minus nodes shrink, its plus nodes grow.
-use Rattle.std.proofs.Common.{ℕ, ◌≡◌, ◌+◌, ◌<◌, ◌≤◌, ◌⊎◌, inl, inr, true, false, List, [], ◌∷◌, ◌++◌, length, take, get_or, map, refl, sym, ap, ◌∙◌, subst, append_assoc, arith}
+use Rattle.std.proofs.Common.{ℕ, ◌≡◌, ◌+◌, ◌<◌, ◌≤◌, ◌⊎◌, inl, inr, true, false, List, [], ◌∷◌, ◌++◌, length, take, get_or, refl, sym, ap, ◌∙◌, subst, append_assoc, arith}
 use Rattle.std.proofs.lemmas.Bool.{both_ways, false_from_ne_true, or_cases, or_from}
 use Rattle.std.proofs.lemmas.List.{get_or-map, length-map, map_more, take-map, take_all}
 use Rattle.fb_graph.specs.Parity.{is_in}
@@ -8,7 +8,7 @@ use Rattle.fb_graph.specs.Certificate.{AreDistinct}
 use Rattle.fb_graph.specs.Dual.{AllowsGrowth, IsCrossed, Node, change_at, is_live, is_outer, thicker_node, top_at}
 use Rattle.fb_graph.specs.Steps.{stepped_nodes}
 use Rattle.fb_graph.specs.Turns.{thinner_node}
-use Rattle.fb_graph.proofs.Floods.{is_in-left, is_in-right}
+use Rattle.fb_graph.proofs.Floods.{is_in-left}
 use Rattle.fb_graph.proofs.Members.{is_in-append}
 use Rattle.fb_graph.proofs.Sets.{is_in-head, is_in-tail, is_in_at}
 use Rattle.fb_laws.proofs.MergedParts.{distinct_across}
@@ -16,7 +16,7 @@ use Rattle.fb_laws.proofs.TreePaths.{distinct_right}
 use Rattle.fb_regions.specs.Moves.{node_named}
 use Rattle.fb_regions.proofs.Listed.{not_before}
 use Rattle.fb_trees.specs.declared.branch.Branch.{Branch}
-use Rattle.fb_trees.specs.InternalSteps.{AreOver, IsGrowing, IsShrinking, roles_by_names}
+use Rattle.fb_trees.specs.InternalSteps.{IsGrowing, IsShrinking, roles_by_names}
 use Rattle.fb_trees.proofs.BranchTurns.{before_is_in, minus_of, plus_of}
 use Rattle.fb_trees.proofs.NodeTurns.{grown_turn, minus_turn, plus_turn, shrunk_turn}
 

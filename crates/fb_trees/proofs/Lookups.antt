@@ -1,7 +1,7 @@
 -- The branch of a node by its place, and the node's role by its branch.
 use Rattle.std.proofs.Common.{ℕ, ◌≡◌, ◌<◌, ◌==◌, ◌||◌, ◌⊎◌, ◌↔◌, inl, inr, cond, Bool, true, false, List, [], ◌∷◌, ◌++◌, map, reverse, length, get_or, Option, Some, None, refl, sym, ap, ◌∙◌, subst, arith}
 use Rattle.std.proofs.Math.Bool.{or-false}
-use Rattle.std.proofs.lemmas.Bool.{both_ways, false_from_ne_true, cases_Bool, eq-eqb, ne_eqb, or_left, or_parts, or_right, eqb-true}
+use Rattle.std.proofs.lemmas.Bool.{both_ways, false_from_ne_true, cases_Bool, eq-eqb, or_left, or_parts, or_right, eqb-true}
 use Rattle.std.proofs.lemmas.List.{get_or_append_left, get_or_push, get_or-map, length-map, length-reverse, map-append, reverse-append, reverse-reverse}
 use Rattle.std.proofs.lemmas.Option.{none-some, same_Some}
 use Rattle.fb_graph.specs.Parity.{is_in}
@@ -13,8 +13,8 @@ use Rattle.fb_laws.specs.Trees.{EntryOf, minus_names, plus_names, tree_names}
 use Rattle.fb_trees.specs.declared.branch.Branch.{Branch}
 use Rattle.fb_trees.specs.Branches.{Grown, entries_of, entry_of}
 use Rattle.fb_trees.specs.Rooted.{IsBranchAt, IsRooted, role_in}
-use Rattle.fb_trees.specs.InternalPlaces.{ArePlaces, branch_at, place_of}
-use Rattle.fb_trees.proofs.Names.{exclusive_names, root_plus}
+use Rattle.fb_trees.specs.InternalPlaces.{branch_at, place_of}
+use Rattle.fb_trees.proofs.Names.{exclusive_names}
 
 pub entries_push : (xs : List Branch) (b : Branch) → entries_of (xs ++ b ∷ []) ≡ entry_of b ∷ entries_of xs
 entries_push xs b = ap (map entry_of) (reverse-append xs (b ∷ []))
@@ -27,11 +27,6 @@ length_entries xs = length-map (reverse xs) entry_of ∙ length-reverse xs
 
 reverse_first : {X : Type 0} (x : X) (xs : List X) → reverse (x ∷ xs) ≡ reverse xs ++ x ∷ []
 reverse_first x xs = reverse-append (x ∷ []) xs
-
--- what the table has for a node is the place of its branch
-pub read_place : (es : List (EntryOf ℕ)) (name : ℕ) {places table : List (Option ℕ)} {at : Option ℕ} → ArePlaces places es
-    → table ≡ places → at ≡ place_in table name → place_of es name ≡ at
-read_place es name placed same is = sym (placed name) ∙ (ap (λ l. place_in l name) (sym same) ∙ sym is)
 
 -- at the place of a node there is its branch
 place_within : (es : List (EntryOf ℕ)) (name at : ℕ) → place_of es name ≡ Some at → at < length es
@@ -149,12 +144,6 @@ role_minus t name distinct minus =
         false_from_ne_true (is_in (plus_names t.root t.branches) name)
         (λ plus. both_ways (is_in (minus_names t.branches) name) (exclusive_names t.root t.branches distinct name plus) minus)
 
-pub role_out : (t : Grown) (name : ℕ) → branch_at t.branches name ≡ None → (t.root == name) ≡ false → Out ≡ role_in t name
-role_out t name none other =
-    let is = no_branch_plus t.root t.branches name none in
-    ap (λ b. cond b Minus Out) (sym is.1)
-    ∙ ap (λ b. cond b Plus (cond (is_in (minus_names t.branches) name) Minus Out)) (sym (is.0 ∙ other))
-
 -- a node that is its branch's plus node is plus, and another one minus
 pub branch_plus : (root : ℕ) (es : List (EntryOf ℕ)) (name : ℕ) (e : EntryOf ℕ) → branch_at es name ≡ Some e → e.plus ≡ name
     → is_in (plus_names root es) name ≡ true
@@ -186,13 +175,6 @@ role_of_plus t name e is same = role_plus t name (branch_plus t.root t.branches 
 pub role_of_minus : (t : Grown) (name : ℕ) (e : EntryOf ℕ) → IsRooted t.root t.branches → Some e ≡ branch_at t.branches name
     → (e.plus ≡ name → ⊥) → Minus ≡ role_in t name
 role_of_minus t name e rooted is other = role_minus t name rooted.names (branch_minus t.branches name e (sym is) other).1
-
-pub role_of_root : (t : Grown) (name : ℕ) → t.root ≡ name → Plus ≡ role_in t name
-role_of_root t name same =
-    role_plus t name (ap (is_in (plus_names t.root t.branches)) (sym same) ∙ root_plus t.root t.branches)
-
-pub role_of_none : (t : Grown) (name : ℕ) → None ≡ branch_at t.branches name → (t.root ≡ name → ⊥) → Out ≡ role_in t name
-role_of_none t name is other = role_out t name (sym is) (ne_eqb t.root name other)
 
 -- a role tells which of the names a node's is
 pub plus_role : (t : Grown) (name : ℕ) (names : List ℕ) → names ≡ plus_names t.root t.branches

@@ -1,11 +1,10 @@
 -- A table of places while entries of branches are written or taken out.
-use Rattle.std.proofs.Common.{ℕ, ◌≡◌, ◌<◌, ◌≤◌, ◌+◌, ◌==◌, ◌||◌, ◌⊎◌, inl, inr, cond, Bool, true, false, List, [], ◌∷◌, ◌++◌, length, get_or, take, Option, Some, None, refl, sym, ap, ◌∙◌, if◌then◌else◌, arith}
-use Rattle.std.proofs.lemmas.Bool.{cases_Bool}
-use Rattle.std.proofs.lemmas.List.{take_more, take_all, length-take-le}
+use Rattle.std.proofs.Common.{ℕ, ◌≡◌, ◌<◌, ◌+◌, ◌==◌, ◌||◌, cond, Bool, true, false, List, [], ◌∷◌, length, get_or, take, Option, Some, None, refl, sym, ap, ◌∙◌, if◌then◌else◌, arith}
+use Rattle.std.proofs.lemmas.List.{take_more, length-take-le}
 use Rattle.fb_laws.specs.Trees.{EntryOf}
 use Rattle.fb_trees.specs.declared.branch.Branch.{Branch}
 use Rattle.fb_trees.specs.Branches.{entries_of, entry_of}
-use Rattle.fb_trees.specs.InternalPlaces.{ArePlaces, has_branch, place_of, place_or}
+use Rattle.fb_trees.specs.InternalPlaces.{has_branch, place_of, place_or}
 use Rattle.fb_trees.proofs.Lookups.{entries_push, length_entries}
 use Rattle.fb_regions.specs.InternalPlaces.{place_in}
 
@@ -80,20 +79,3 @@ entered_next bs i d below first old new was written name =
         ≡ place_or (cond here (Some (length (entries_of (take i bs)))) (place_of (entries_of (take i bs)) name)) (place_in first name)
     by true is = ap Some (sym at)
     by false is = is
-
--- all places of branches taken out, and entered where there are none
-pub all_emptied : (es : List (EntryOf ℕ)) (old new : List (Option ℕ))
-    → ((name : ℕ) → place_in new name ≡ (if has_branch es name then None else place_in old name)) → ArePlaces old es → ArePlaces new []
-all_emptied es old new is placed name = is name ∙ by (cases_Bool (has_branch es name))
-  where
-    by : (has_branch es name ≡ true) ⊎ (has_branch es name ≡ false) → cond (has_branch es name) None (place_in old name) ≡ None
-    by (inl h) = ap (λ b. cond b None (place_in old name)) h
-    by (inr h) = ap (λ b. cond b None (place_in old name)) h ∙ (placed name ∙ place_without es name h)
-
-pub all_entered : (es : List (EntryOf ℕ)) (old new : List (Option ℕ))
-    → ((name : ℕ) → place_in new name ≡ place_or (place_of es name) (place_in old name)) → ArePlaces old [] → ArePlaces new es
-all_entered es old new is none name = is name ∙ (ap (place_or (place_of es name)) (none name) ∙ by (place_of es name))
-  where
-    by : (o : Option ℕ) → place_or o None ≡ o
-    by None = refl
-    by (Some at) = refl

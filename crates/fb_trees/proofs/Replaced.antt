@@ -26,10 +26,6 @@ opened_at xs place path =
     opened_tree (entries_of (drop (place + 1) xs)) (entry_of (get_or xs place some_branch)) (entries_of (take place xs))
     (first_node path) (way_of path)
 
--- the tree with other branches
-abbrev pub with_branches : Grown → List (EntryOf ℕ) → Grown
-with_branches t branches = record { root = t.root; branches = branches }
-
 pub rooted_after : (t : Grown) (gone : List ℕ) (name : ℕ) (inside : ℕ → Bool) → inside ≡ is_in gone → IsRooted t.root t.branches
     → MayJoin t gone name → (root : ℕ) → root ≡ renamed_name inside name t.root → (branches : List (EntryOf ℕ))
     → branches ≡ joined_tree inside name t.branches → IsRooted root branches

@@ -1,8 +1,8 @@
 -- A tree with nodes replaced, by its fields.
-use Rattle.std.proofs.Common.{ℕ, ◌≡◌, ◌+◌, Bool, true, List, ◌∷◌, ◌++◌, get_or, take, drop, Some, sym, ap, ◌∙◌, subst}
+use Rattle.std.proofs.Common.{ℕ, ◌≡◌, ◌+◌, Bool, true, List, get_or, take, drop, Some, sym, ap, ◌∙◌, subst}
 use Rattle.fb_graph.specs.Parity.{is_in}
 use Rattle.fb_links.specs.declared.cycle.CycleStep.{CycleStep}
-use Rattle.fb_laws.specs.Trees.{EntryOf, tree_names}
+use Rattle.fb_laws.specs.Trees.{tree_names}
 use Rattle.fb_laws.specs.SearchBlossoms.{joined_tree, renamed_name}
 use Rattle.fb_trees.specs.declared.branch.Branch.{Branch}
 use Rattle.fb_trees.specs.declared.one_tree.OneTree.{OneTree}

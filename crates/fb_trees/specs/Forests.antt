@@ -1,6 +1,6 @@
 -- Several alternating trees at once (Edmonds 1965), as contracts see them: a list of trees by their numbers. A tree that was
 -- dissolved is gone, and its number stays.
-use Rattle.std.specs.Prelude.{ℕ, ◌≡◌, Bool, true, false, List, [], ◌∷◌, ◌++◌, map, get_or, set, Option, Some, None, if◌then◌else◌}
+use Rattle.std.specs.Prelude.{ℕ, ◌≡◌, true, false, List, [], ◌∷◌, ◌++◌, map, get_or, set, Option, Some, None, if◌then◌else◌}
 use Rattle.fb_graph.specs.Parity.{is_in}
 use Rattle.fb_graph.specs.Steps.{Roles}
 use Rattle.fb_regions.specs.declared.roles.Role.{Role}

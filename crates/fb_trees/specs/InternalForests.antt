@@ -6,10 +6,10 @@ use Rattle.fb_regions.specs.InternalPlaces.{place_in}
 use Rattle.fb_trees.specs.declared.branch.Branch.{Branch}
 use Rattle.fb_trees.specs.declared.one_tree.OneTree.{OneTree}
 use Rattle.fb_trees.specs.Branches.{Grown, entries_of}
-use Rattle.fb_trees.specs.Forests.{IsOutside, IsTreeOf, tree_at}
+use Rattle.fb_trees.specs.Forests.{IsOutside, IsTreeOf, tree_at, trees_in}
 use Rattle.fb_trees.specs.InternalPlaces.{IsWithin, has_branch, place_of, place_or}
 use Rattle.fb_links.specs.declared.cycle.CycleStep.{CycleStep}
-use Rattle.fb_trees.specs.Replacements.{IsOpened, MayJoin, MayOpen, joined_grown}
+use Rattle.fb_trees.specs.Replacements.{IsOpened, MayJoin, MayOpen, MayReplace, joined_grown}
 use Rattle.fb_trees.specs.Rooted.{IsRooted, is_node}
 
 -- the tree, if it isn't dissolved
@@ -28,6 +28,11 @@ pub record IsKeptForest (forest : List (Option Grown)) (owners places : List (Op
   pub owner : (t name : ℕ) → place_in owners name ≡ Some t → (g : Grown) × IsTreeOf forest name t g
   pub placed : (t name : ℕ) (g : Grown) → IsTreeOf forest name t g → place_in places name ≡ place_of g.branches name
   pub free : (name : ℕ) → place_in owners name ≡ None → place_in places name ≡ None
+
+-- what a forest keeps, and how many of its trees aren't dissolved
+pub record IsWholeForest (forest : List (Option Grown)) (owners places : List (Option ℕ)) (left : ℕ) : Type 0 where
+  pub kept : IsKeptForest forest owners places
+  pub counted : left ≡ length (trees_in forest)
 
 -- the tables have room for these nodes
 pub record HasRoom (owners places : List (Option ℕ)) (root : ℕ) (branches : List Branch) : Type 0 where
@@ -73,20 +78,25 @@ pub record IsRebuilt (owners places : List (Option ℕ)) (old_root : ℕ) (old :
       ≡ (if root == name then Some t else (if has_branch new name then Some t else place_in left_owners name))
   pub places_are : (name : ℕ) → place_in after_places name ≡ place_or (place_of new name) (place_in left_places name)
 
--- nodes of one tree of the forest can be joined, and the blossom is in no tree
-pub record MayJoinIn (forest : List (Option Grown)) (first : ℕ) (gone : List ℕ) (name : ℕ) : Type 0 where
-  pub tree : ℕ
+-- nodes of the tree of that number can be joined, and the blossom is in no tree
+pub record MayJoinIn (forest : List (Option Grown)) (t : ℕ) (gone : List ℕ) (name : ℕ) : Type 0 where
   pub grown : Grown
-  pub is : IsTreeOf forest first tree grown
+  pub at : tree_at forest t ≡ Some grown
   pub may : MayJoin grown gone name
   pub fresh : IsOutside forest name
 
--- a minus node of one tree can give way to the path, whose nodes are in no tree
-pub record MayOpenIn (forest : List (Option Grown)) (name : ℕ) (path : List CycleStep) : Type 0 where
-  pub tree : ℕ
+-- a minus node of the tree of that number can give way to the path, whose nodes are in no tree
+pub record MayOpenIn (forest : List (Option Grown)) (t name : ℕ) (path : List CycleStep) : Type 0 where
   pub grown : Grown
-  pub is : IsTreeOf forest name tree grown
+  pub at : tree_at forest t ≡ Some grown
   pub may : MayOpen grown name path
+  pub fresh : (n : ℕ) → is_in (map (λ s. s.node) path) n ≡ true → IsOutside forest n
+
+-- nodes of the tree of that number can give way to the path, whose nodes are in no tree
+pub record MayReplaceAt (forest : List (Option Grown)) (t : ℕ) (gone : List ℕ) (path : List CycleStep) : Type 0 where
+  pub grown : Grown
+  pub at : tree_at forest t ≡ Some grown
+  pub may : MayReplace grown gone path
   pub fresh : (n : ℕ) → is_in (map (λ s. s.node) path) n ≡ true → IsOutside forest n
 
 -- that tree with the nodes of the path in it, and no other change

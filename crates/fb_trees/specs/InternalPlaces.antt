@@ -26,20 +26,12 @@ abbrev pub branch_at : List (EntryOf ℕ) → ℕ → Option (EntryOf ℕ)
 branch_at [] name = None
 branch_at (e ∷ es) name = if (e.minus == name) || (e.plus == name) then Some e else branch_at es name
 
--- the table has the place of each node's branch, and no other
-abbrev pub ArePlaces : List (Option ℕ) → List (EntryOf ℕ) → Type 0
-ArePlaces places branches = (name : ℕ) → place_in places name ≡ place_of branches name
-
 -- a table of that length has room for both nodes of the branch
 pub record IsWithin (count : ℕ) (b : Branch) : Type 0 where
   pub minus : b.minus < count
   pub plus : b.plus < count
 
-pub record IsKept (root : ℕ) (branches : List (EntryOf ℕ)) (places : List (Option ℕ)) : Type 0 where
-  pub rooted : IsRooted root branches
-  pub placed : ArePlaces places branches
-
--- what a tree keeps where others share its table
+-- what a tree keeps with a table that others may share
 pub record IsViewed (root : ℕ) (branches : List (EntryOf ℕ)) (places : List (Option ℕ)) : Type 0 where
   pub rooted : IsRooted root branches
   pub placed : (name : ℕ) → is_in (tree_names root branches) name ≡ true → place_in places name ≡ place_of branches name

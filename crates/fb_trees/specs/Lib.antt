@@ -1,6 +1,7 @@
 pub mod Branches
 pub mod Forests
 pub mod InternalForests
+pub mod InternalLoneTrees
 pub mod InternalMetWalks
 pub mod InternalNames
 pub mod InternalPaths

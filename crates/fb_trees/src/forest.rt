@@ -5,10 +5,10 @@ ghost use Rattle.fb_graph.specs.Nests.{AreMany};
 ghost use Rattle.fb_laws.specs.Trees.{branches_beside, path_to};
 ghost use Rattle.fb_links.specs.Table.{is_live};
 ghost use Rattle.fb_trees.specs.Branches.{Grown, entries_of, entry_of};
-ghost use Rattle.fb_trees.specs.Forests.{ArePlusTogether, AreRootedApart, IsInside, IsMinusNode, IsOutside, IsPlusNode, IsReplacedIn, IsTreeOf, MayReplaceIn, bare_trees, first_name, role_among, tree_at};
+ghost use Rattle.fb_trees.specs.Forests.{ArePlusTogether, AreRootedApart, IsInside, IsMinusNode, IsOutside, IsPlusNode, IsReplacedIn, IsTreeOf, MayReplaceIn, bare_trees, first_name, role_among, tree_at, trees_in};
 ghost use Rattle.fb_trees.specs.Rooted.{IsBranchAt, attached_grown, bare};
 ghost use Rattle.fb_trees.specs.TreeSteps.{IsCycle, path_up};
-ghost use Rattle.fb_trees.specs.InternalForests.{IsOpenedIn, MayJoinIn, MayOpenIn, MayRebuild, seen};
+ghost use Rattle.fb_trees.specs.InternalForests.{IsOpenedIn, MayJoinIn, MayOpenIn, MayRebuild, MayReplaceAt, seen};
 ghost use Rattle.fb_trees.specs.Replacements.{AreLinkedOn, joined_grown};
 
 use crate::one_tree::OneTree;
@@ -19,7 +19,7 @@ use crate::{Branch, CycleStep, LinkId, Links, NoMemory, NodeId, Role, Roles};
 use std::alloc::Global;
 use std::marker::Model;
 
-/// The number of a tree in its forest: the place of its root among those that the forest began with.
+/// The number of a tree in its forest: the place of its root among those that the forest began with and those added since.
 pub type TreeId = usize;
 
 /// Several alternating trees at once (Edmonds 1965), none of which shares a node with another. Contracts see them by their
@@ -28,6 +28,8 @@ pub type TreeId = usize;
 pub struct Forest {
     trees: Vec<OneTree>,
     table: Table,
+    /// How many of the trees aren't dissolved.
+    left: usize,
 }
 
 impl Model for Forest {
@@ -39,11 +41,11 @@ impl Model for Forest {
 
     ghost coded = { coded_list (coded_option grown_code) };
 
-    ghost use Rattle.fb_trees.specs.InternalForests.{IsKeptForest, grown_of};
+    ghost use Rattle.fb_trees.specs.InternalForests.{IsWholeForest, grown_of};
 
     ghost view = { λ f. map grown_of f.trees.items };
 
-    ghost invariant = { λ f. IsKeptForest (map grown_of f.trees.items) f.table.owners.items f.table.places.items };
+    ghost invariant = { λ f. IsWholeForest (map grown_of f.trees.items) f.table.owners.items f.table.places.items f.left };
 }
 
 impl Forest {
@@ -52,23 +54,62 @@ impl Forest {
         requires { AreDistinct roots.now }
         ensures { IfOk result (λ forest. forest ≡ bare_trees roots.now) }
     {
-        let mut forest = Forest {
+        Forest::empty(alloc).restart(alloc, roots)
+    }
+
+    /// A forest of no trees, for a later restart. Takes no memory.
+    pub fn empty(alloc: Global) -> Forest
+        ensures { result ≡ [] }
+    {
+        Forest {
             trees: Vec::new(alloc),
             table: Table {
                 owners: Vec::new(alloc),
                 places: Vec::new(alloc),
             },
-        };
+            left: 0,
+        }
+    }
+
+    /// One tree for each root, the root alone, in the room of this forest. Takes time for each tree of this forest, for the
+    /// nodes of those that aren't dissolved, and for each root, but never for the room of the tables, which grow only for a
+    /// name larger than each before.
+    pub fn restart(self, alloc: Global, roots: &[NodeId]) -> Result<Forest, NoMemory>
+        requires { AreDistinct roots.now }
+        ensures { IfOk result (λ forest. forest ≡ bare_trees roots.now) }
+    {
+        let mut forest = self;
+        forest.clear();
         for root in roots {
-            forest.add(alloc, *root)?;
+            forest.add_tree(alloc, *root)?;
         }
         Ok(forest)
     }
 
-    /// Adds the tree of the root alone.
-    fn add(&mut self, alloc: Global, root: NodeId) -> Result<(), NoMemory>
+    /// Takes all trees away, and their numbers too. The room for the tables and for the list of trees stays.
+    fn clear(&mut self)
+        ensures { self.new ≡ [] }
+    {
+        self.dissolve_all();
+        self.trees.clear();
+    }
+
+    /// Dissolves each tree that isn't dissolved yet.
+    fn dissolve_all(&mut self)
+        ensures { (t : ℕ) → tree_at self.new t ≡ None }
+    {
+        for tree in 0..self.count() {
+            if self.root(tree).is_some() {
+                self.dissolve(tree);
+            }
+        }
+    }
+
+    /// Adds the tree of the root alone, a plus node, which is in no tree yet. Its number is the last.
+    pub fn add_tree(&mut self, alloc: Global, root: NodeId) -> Result<(), NoMemory>
         requires { IsOutside self.old root }
-        ensures { OnOk result (self.new ≡ self.old ++ Some (bare root) ∷ []) }
+        ensures ok { OnOk result (self.new ≡ self.old ++ Some (bare root) ∷ []) }
+        ensures err { OnErr result (self.new ≡ self.old) }
     {
         let tree = self.trees.len();
         self.trees.reserve(1)?;
@@ -79,6 +120,7 @@ impl Forest {
             branches: Vec::new(alloc),
             live: true,
         });
+        self.left += 1;
         Ok(())
     }
 
@@ -89,11 +131,18 @@ impl Forest {
         let _ = &self.table;
     }
 
-    /// How many trees the forest began with.
+    /// How many trees there are or were: the number of the tree that is added next.
     pub fn count(&self) -> usize
         ensures { result ≡ length self.now }
     {
         self.trees.len()
+    }
+
+    /// How many trees aren't dissolved. Constant time.
+    pub fn left(&self) -> usize
+        ensures { result ≡ length (trees_in self.now) }
+    {
+        self.left
     }
 
     /// The root of the tree of that number; `None` if it was dissolved.
@@ -194,6 +243,7 @@ impl Forest {
     {
         let one = &mut self.trees[tree];
         dissolve(&mut self.table, one);
+        self.left -= 1;
     }
 
     /// Puts `minus` under the plus node by the link, and the node of `matched` under `minus` by the link of `matched`,
@@ -251,43 +301,62 @@ impl Forest {
         ensures err { OnErr result (self.new ≡ self.old) }
     {
         let _ = links;
+        let [first, ..] = gone else { unreachable!() };
+        let Some(tree) = self.tree_of(*first) else {
+            unreachable!()
+        };
+        self.replace_in(alloc, tree, gone, path)
+    }
+
+    /// The same in the tree of that number.
+    pub(crate) fn replace_in(
+        &mut self,
+        alloc: Global,
+        tree: TreeId,
+        gone: &[NodeId],
+        path: &[CycleStep],
+    ) -> Result<(), NoMemory>
+        requires { MayReplaceAt self.old tree gone.now path.now }
+        ensures ok { OnOk result ((g : Grown) → tree_at self.old tree ≡ Some g → IsReplacedIn self.old gone.now path.now tree g self.new) }
+        ensures err { OnErr result (self.new ≡ self.old) }
+    {
         match (gone, path) {
-            ([blossom], _) => self.open(alloc, *blossom, path),
-            ([first, _, ..], [blossom]) => self.join(alloc, *first, gone, blossom.node),
+            ([blossom], _) => self.open(alloc, tree, *blossom, path),
+            ([_, _, ..], [blossom]) => self.join(alloc, tree, gone, blossom.node),
             _ => unreachable!(),
         }
     }
 
-    /// Puts the blossom in the place of the nodes.
+    /// Puts the blossom in the place of the nodes, in the tree of that number.
     fn join(
         &mut self,
         alloc: Global,
-        first: NodeId,
+        tree: TreeId,
         gone: &[NodeId],
         blossom: NodeId,
     ) -> Result<(), NoMemory>
-        requires may { MayJoinIn self.old first gone.now blossom }
+        requires may { MayJoinIn self.old tree gone.now blossom }
         requires many { 2 ≤ length gone.now }
         ensures many { 2 ≤ length gone.now }
-        ensures ok { OnOk result ((t : ℕ) (g : Grown) → IsTreeOf self.old first t g → self.new ≡ set self.old t (Some (joined_grown g gone.now blossom))) }
+        ensures ok { OnOk result ((g : Grown) → tree_at self.old tree ≡ Some g → self.new ≡ set self.old tree (Some (joined_grown g gone.now blossom))) }
         ensures err { OnErr result (self.new ≡ self.old) }
     {
-        let Some(tree) = self.tree_of(first) else {
-            unreachable!()
-        };
         let one = self.view(tree).joined(alloc, gone, blossom)?;
         self.rebuild(tree, one)
     }
 
-    /// Puts the nodes of the path in the place of the minus node.
-    fn open(&mut self, alloc: Global, blossom: NodeId, path: &[CycleStep]) -> Result<(), NoMemory>
-        requires { MayOpenIn self.old blossom path.now }
-        ensures ok { OnOk result ((t : ℕ) (g : Grown) → IsTreeOf self.old blossom t g → IsOpenedIn self.old blossom path.now t g self.new) }
+    /// Puts the nodes of the path in the place of the minus node of the tree of that number.
+    fn open(
+        &mut self,
+        alloc: Global,
+        tree: TreeId,
+        blossom: NodeId,
+        path: &[CycleStep],
+    ) -> Result<(), NoMemory>
+        requires { MayOpenIn self.old tree blossom path.now }
+        ensures ok { OnOk result ((g : Grown) → tree_at self.old tree ≡ Some g → IsOpenedIn self.old blossom path.now tree g self.new) }
         ensures err { OnErr result (self.new ≡ self.old) }
     {
-        let Some(tree) = self.tree_of(blossom) else {
-            unreachable!()
-        };
         let one = self.view(tree).opened(alloc, blossom, path)?;
         self.rebuild(tree, one)
     }

@@ -1,7 +1,7 @@
 ghost use Rattle.std.specs.Prelude.{◌≡◌, ◌≤◌, ◌<◌, ◌==◌, ◌||◌, [], ℕ, None, Some, All, OnOk, length, vec_capacity, if◌then◌else◌};
 ghost use Rattle.fb_regions.specs.InternalPlaces.{place_in};
 ghost use Rattle.fb_trees.specs.Branches.{entries_of};
-ghost use Rattle.fb_trees.specs.InternalPlaces.{ArePlaces, IsWithin, has_branch, place_of, place_or};
+ghost use Rattle.fb_trees.specs.InternalPlaces.{IsWithin, has_branch, place_of, place_or};
 
 use crate::{Branch, NoMemory, NodeId};
 
@@ -72,8 +72,7 @@ pub fn widen(places: &mut Places, node: NodeId) -> Result<(), NoMemory>
 /// Enters the nodes of the branches, the oldest one first. Other entries stay.
 pub fn enter_all(places: &mut Places, branches: &[Branch])
     requires { All (IsWithin (length places.old.items)) branches.now }
-    ensures entries { (name : ℕ) → place_in places.new.items name ≡ place_or (place_of (entries_of branches.now) name) (place_in places.old.items name) }
-    ensures places { ArePlaces places.old.items [] → ArePlaces places.new.items (entries_of branches.now) }
+    ensures { (name : ℕ) → place_in places.new.items name ≡ place_or (place_of (entries_of branches.now) name) (place_in places.old.items name) }
 {
     for (at, branch) in branches.iter().enumerate() {
         enter(places, branch, at);
@@ -105,7 +104,6 @@ pub fn enter_owner(owners: &mut Places, branches: &[Branch], tree: usize)
 pub fn take_out_all(places: &mut Places, branches: &[Branch])
     ensures count { length places.new.items ≡ length places.old.items }
     ensures entries { (name : ℕ) → place_in places.new.items name ≡ (if has_branch (entries_of branches.now) name then None else place_in places.old.items name) }
-    ensures empty { ArePlaces places.old.items (entries_of branches.now) → ArePlaces places.new.items [] }
 {
     for branch in branches {
         remove(places, branch.minus);

@@ -18,14 +18,7 @@ pub fn step_nodes<S: Scope>(regions: &mut Regions<S>, tree: &Tree, length: u64)
     requires may { MayStep (S.problem regions.old.scope) (roles_of tree.now.root tree.now.branches) regions.old.nodes length }
     ensures { regions.new ≡ record { scope = regions.old.scope; nodes = stepped_nodes (roles_of tree.now.root tree.now.branches) length regions.old.nodes } }
 {
-    let branches = tree.branches();
-    for branch in branches {
-        regions.shrink(branch.minus, length);
-    }
-    regions.grow(tree.root(), length);
-    for branch in branches {
-        regions.grow(branch.plus, length);
-    }
+    grow_all(regions, &tree.forest, length);
 }
 
 /// Each minus node of all trees shrinks by this length, and then each plus node grows by it; nothing else changes. In the

@@ -6,12 +6,13 @@ use fb_graph::{NoMemory, Steps, Whole};
 use fb_half::{Half, Spare, Work};
 use fb_links::NodeId;
 use fb_plan::Job;
-use fb_search::{Scratch, search_each_from};
+use fb_search::{Scratch, match_all_from};
 use std::alloc::Global;
 use std::sync::ledger::Ledger;
 
-/// The solved part of a unit: a search from each of its shifted defects that is still unmatched, in rising order of
-/// vertices. Counts a step for each search: at least one for every two of these defects, and at most one for each.
+/// The solved part of a unit: its shifted defects are matched, those that can be at once in rising order of vertices, then all
+/// others by trees. Counts a step for each search and each tree that begins: at least one for every two of these defects, and
+/// at most one for each.
 pub fn solve_unit<'a, L: Ledger>(
     alloc: Global,
     job: &'a Job<'a>,
@@ -52,7 +53,7 @@ pub fn solve_unit_from<'a, L: Ledger>(
         × (steps.new ≤ steps.old + length (own_defects r.0))) }
 {
     let (work, roots) = begin(alloc, job, slot, node, spare)?;
-    let (work, scratch) = search_each_from(alloc, work, &roots, scratch, steps)?;
+    let (work, scratch) = match_all_from(alloc, work, &roots, scratch, steps)?;
     Ok((work.close(), scratch))
 }
 

@@ -10,8 +10,8 @@ returns-clause-most g c = omega (arith, c.in_ok-work-2.ensures.most, unmatched_c
 pub returns-clause-least : goal.returns-clause-least
 returns-clause-least g c = omega (arith, c.in_ok-work-2.ensures.least, unmatched_counted _ _ _ _ _ c.in_ok-work.ensures)
 
-pub search_all-requires : goal.search_all-requires
-search_all-requires g c =
+pub match_all-requires : goal.match_all-requires
+match_all-requires g c =
     let work = c.in_ok-work.work in
     record {
       room = c.requires.room

@@ -1,15 +1,15 @@
 use Rattle.std.proofs.Common.{get_or, subst}
 use Rattle.fb_graph.specs.Dual.{top_at}
 use Rattle.fb_obstacles.specs.InternalWatching.{Watches}
-use Rattle.fb_search.proofs.BegunForests.{nodes_first, nodes_on}
+use Rattle.fb_search.proofs.DissolvedWatches.{each_first, each_on}
 use Rattle.fb_search.proofs.growing_begin.watch_nodes.Goals as goal
 
 pub loop-node-init : goal.loop-node-init
-loop-node-init g c = nodes_first (g.S.Scope.problem c.args.regions.now.scope) c.args.regions.now.nodes c.args.watch.now
+loop-node-init g c = each_first (g.S.Scope.problem c.args.regions.now.scope) c.args.regions.now.nodes c.args.watch.now
 
 pub loop-node-preserved : goal.loop-node-preserved
 loop-node-preserved g c =
-    nodes_on (g.S.Scope.problem c.args.regions.now.scope) c.args.regions.now.nodes c.args.nodes.now c.loop-node.node-index
+    each_on (g.S.Scope.problem c.args.regions.now.scope) c.args.regions.now.nodes c.args.nodes.now c.loop-node.node-index
     c.args.watch.now c.loop-node.watch c.watch_node.new.watch c.loop-node-test.true c.loop-node.invariant
     (subst
     (λ s.

@@ -4,7 +4,7 @@ use Rattle.fb_graph.specs.Limits.{IsWithinLimits}
 use Rattle.fb_half.specs.Parts.{problem_in}
 use Rattle.fb_half.specs.Values.{part_of}
 use Rattle.fb_search.proofs.BegunSearches.{kept_limits, kept_watches}
-use Rattle.fb_search.proofs.MetTrees.{met_apart, met_attached, met_grows, met_link, met_live, met_mate, met_other, met_plus, met_put, met_taken}
+use Rattle.fb_search.proofs.MetTrees.{met_apart, met_attached, met_entered, met_grows, met_link, met_live, met_mate, met_other, met_plus, met_put, met_taken}
 use Rattle.fb_search.proofs.growing_meets.take_couple.Goals as goal
 
 pub attach-requires-clause-link : goal.attach-requires-clause-link
@@ -25,6 +25,9 @@ attach-requires-clause-matched c = met_mate c.requires.met.0 c.args.met _ c.requ
 pub attach-requires-clause-apart : goal.attach-requires-clause-apart
 attach-requires-clause-apart c = met_apart c.requires.met.0 c.args.met _ c.requires.met.1 c.args.mate c.requires.couple
 
+pub enter_minus-requires : goal.enter_minus-requires
+enter_minus-requires c = met_entered c.requires.met.0 c.args.met _ c.requires.met.1 c.args.mate c.requires.couple
+
 pub watch_node-requires-clause-live : goal.watch_node-requires-clause-live
 watch_node-requires-clause-live c = met_live c.requires.met.0 c.args.met _ c.requires.met.1 c.args.mate c.requires.couple
 
@@ -39,9 +42,9 @@ returns c w met =
     let put = met_put w c.args.met _ met c.args.mate c.requires.couple c.attach.new.self c.in_ok-attach.ensures.ok in
     rw put (record {
       scope = record { graph = scope.graph; plan = scope.plan; node = scope.node; listed = scope.listed; defects = scope.defects };
-      keeps = met_attached w c.args.met _ met c.args.mate c.requires.couple limits c.watch_node.new.watch
-          c.keeps.ensures.within
-          (kept_watches part _ c.scope-scope.result.now.plan.now c.scope-scope.result.now.node _ c.args.pieces.now.watch
+      keeps = met_attached w c.args.met _ met c.args.mate c.requires.couple limits c.enter_minus.new.watch c.watch_node.new.watch
+          c.keeps.ensures.within c.in_ok-enter_minus.ensures
+          (kept_watches part _ c.scope-scope.result.now.plan.now c.scope-scope.result.now.node _ c.enter_minus.new.watch
           c.watch_node.new.watch graph c.watch_node.ensures);
       grows_on = met_grows w c.args.met _ met c.args.mate c.requires.couple limits c.watch_node.new.watch;
     })

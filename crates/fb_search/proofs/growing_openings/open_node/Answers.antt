@@ -1,26 +1,29 @@
-use Rattle.std.proofs.Common.{◌≡◌, ◌++◌, ◌∷◌, [], true, All, List, length, sym, subst, ap, ◌∙◌}
+use Rattle.std.proofs.Common.{◌≡◌, ◌++◌, ◌∷◌, [], true, All, List, Some, length, set, sym, subst, ap, ◌∙◌}
 use Rattle.std.proofs.lemmas.Result.{IfOk-weaker}
 use Rattle.fb_graph.specs.Certificate.{AreDistinct}
+use Rattle.fb_graph.specs.Dual.{is_live}
+use Rattle.fb_graph.specs.Moves.{split_nodes}
 use Rattle.fb_links.specs.Table as table
 use Rattle.fb_links.specs.declared.cycle.CycleStep.{CycleStep}
 use Rattle.fb_blossoms.specs.Nodes.{is_on}
 use Rattle.fb_plan.specs.declared.scope.NodeScope.{NodeScope}
 use Rattle.fb_plan.specs.Scopes.{scope_graph}
 use Rattle.fb_half.specs.Matchings.{listed_names, matched_names}
+use Rattle.fb_regions.specs.declared.roles.Role.TheVariants.{Minus}
 use Rattle.fb_trees.specs.Branches.{entry_of}
 use Rattle.fb_trees.specs.Replacements.{AreLinkedOn}
 use Rattle.fb_search.specs.InternalEndings.{Forgets}
-use Rattle.fb_search.specs.InternalOpenings.{couples_on, even_on, links_left, rest_on, round_on, way_on}
+use Rattle.fb_search.specs.InternalOpenings.{EntersWay, couples_on, even_on, links_left, rest_on, round_on, way_on}
 use Rattle.fb_search.specs.InternalGrowing.{GrowingValue, growing_of}
-use Rattle.fb_trees.specs.Forests.{IsReplacedIn, MayReplaceIn}
+use Rattle.fb_trees.specs.Forests.{IsReplacedIn, MayReplaceIn, role_among}
 use Rattle.fb_search.proofs.Agreed.{cycle_there, outer_in_store}
 use Rattle.fb_search.proofs.BegunSearches.{kept_limits, kept_watches}
 use Rattle.fb_search.proofs.BranchEnds.{enters_above, enters_below}
 use Rattle.fb_search.proofs.OpenedConditions.{left_distinct, left_live, way_linked}
-use Rattle.fb_search.proofs.RingOpenings.{ring_couples, ring_goes_on, ring_may_open, ring_opened, ring_opened_listed}
+use Rattle.fb_search.proofs.RingOpenings.{ring_couples, ring_goes_on, ring_may_open, ring_opened, ring_opened_listed, ring_way_live}
 use Rattle.fb_search.proofs.RingRounds.{in_its_tree, minus_node}
 use Rattle.fb_search.proofs.TreesAlone.{alone, enters_part, opening_among, opens_alone}
-use Rattle.fb_search.proofs.Openings.{HasOpened, Opens}
+use Rattle.fb_search.proofs.Openings.{HasOpened, Opens, round_in}
 use Rattle.fb_search.proofs.growing_openings.open_node.Goals as goal
 
 pub child_at-above-requires : goal.child_at-above-requires
@@ -143,7 +146,7 @@ add_matches-requires c =
     let cycle = c.deref.ensures.value ∙ c.open_up-cycle.ensures.cycle in
     let parts = λ (cycle : List CycleStep). even_on (round_on cycle c.child_at-above.result) c.child_at-below.result in
     subst (λ ms. AreDistinct (listed_names w.part.matching ++ matched_names ms))
-    (sym (c.deref-4.ensures.value ∙ c.in_ok-apart.ensures.matches
+    (sym (c.deref-5.ensures.value ∙ c.in_ok-apart.ensures.matches
     ∙ ap (λ l. couples_on (rest_on (parts l) c.child_at-below.result)) cycle))
     (ring_couples w t g at are c.args.node e c.child_at-above.result c.child_at-below.result opens)
 
@@ -192,6 +195,47 @@ watch_node-requires-clause-room c =
     c.requires.growing.room
     ∙ sym (ap (λ g. length g.edges) (ap scope_graph c.scope.ensures ∙ c.requires.scope.graph))
 
+pub enter_way-requires : goal.enter_way-requires
+enter_way-requires c =
+    let w : GrowingValue = growing_of c.args.pieces.now in
+    let node = minus_node w.forest c.args.node c.requires.empty.0 in
+    let t = node.tree in
+    let g = node.grown in
+    let at = node.at in
+    let are = c.requires.growing in
+    let e = entry_of c.branch-branch.result in
+    let opens : Opens (alone w t g) c.args.node e c.child_at-above.result c.child_at-below.result =
+    opens_alone w t g at are c.args.node e c.child_at-above.result c.child_at-below.result c.requires.empty.1
+    (c.branch-branch.ensures t g (in_its_tree w.forest c.args.node node)) c.child_at-above.ensures c.child_at-below.ensures in
+    let cycle = c.deref.ensures.value ∙ c.open_up-cycle.ensures.cycle in
+    let parts = λ (cycle : List CycleStep). even_on (round_on cycle c.child_at-above.result) c.child_at-below.result in
+    let way = c.in_ok-apart.ensures.way
+    ∙ ap (λ l. way_on (parts l) c.child_at-below.result) cycle in
+    let watches = rw c.scope.ensures at c.watch_node.ensures in
+    let in_it = in_its_tree w.forest c.args.node node in
+    let replaced =
+    subst (λ l. IsReplacedIn w.forest (c.args.node ∷ []) l t g c.replace.new.self) (c.deref-2.ensures.value ∙ way)
+    (c.in_ok-replace.ensures.ok t g in_it) in
+    let has : HasOpened (alone w t g) c.args.node c.child_at-above.result c.child_at-below.result c.forget_all.new.links
+    c.open_up-cycle.new.self replaced.after c.watch_node.new.watch = record {
+      taken_off = c.open_up-cycle.ensures.rest;
+      grown = replaced.replaced;
+      forgets = subst (λ l. Forgets l w.part.links c.forget_all.new.links)
+          (c.deref-3.ensures.value ∙ c.in_ok-apart.ensures.left
+          ∙ ap (λ l. links_left (parts l) c.child_at-below.result) cycle) c.forget_all.ensures;
+      within = c.keeps.ensures.within;
+      watches = kept_watches w.part (scope_graph c.args.pieces.now.parts.regions.scope) c.args.pieces.now.parts.regions.scope.plan.now
+          c.args.pieces.now.parts.regions.scope.node _ w.watched c.watch_node.new.watch c.requires.scope.graph watches;
+    } in
+    rw (c.in_ok-split_node.ensures.ok, replaced.new_is)
+    (subst
+    (All
+    (λ s. role_among (set w.forest t (Some replaced.after)) s.node ≡ Minus
+    → is_live (split_nodes c.args.node w.part.nodes) s.node ≡ true))
+    (sym (c.deref-4.ensures.value ∙ way))
+    (ring_way_live w t g at are c.args.node e c.child_at-above.result c.child_at-below.result opens c.forget_all.new.links
+    c.open_up-cycle.new.self replaced.after c.watch_node.new.watch has))
+
 pub returns : goal.returns
 returns c =
     let w : GrowingValue = growing_of c.args.pieces.now in
@@ -208,7 +252,7 @@ returns c =
     let parts = λ (cycle : List CycleStep). even_on (round_on cycle c.child_at-above.result) c.child_at-below.result in
     let way = c.in_ok-apart.ensures.way
     ∙ ap (λ l. way_on (parts l) c.child_at-below.result) cycle in
-    let matches = c.deref-4.ensures.value ∙ c.in_ok-apart.ensures.matches
+    let matches = c.deref-5.ensures.value ∙ c.in_ok-apart.ensures.matches
     ∙ ap (λ l. couples_on (rest_on (parts l) c.child_at-below.result)) cycle in
     let watches = rw c.scope.ensures at c.watch_node.ensures in
     let in_it = in_its_tree w.forest c.args.node node in
@@ -226,6 +270,15 @@ returns c =
       watches = kept_watches w.part (scope_graph c.args.pieces.now.parts.regions.scope) c.args.pieces.now.parts.regions.scope.plan.now
           c.args.pieces.now.parts.regions.scope.node _ w.watched c.watch_node.new.watch c.requires.scope.graph watches;
     } in
+    let enters : EntersWay (split_nodes c.args.node w.part.nodes) (role_among (set w.forest t (Some replaced.after)))
+    (way_on (round_in w.part c.args.node c.child_at-above.result c.child_at-below.result) c.child_at-below.result)
+    c.watch_node.new.watch c.enter_way.new.watch =
+    subst
+    (λ steps.
+    EntersWay (split_nodes c.args.node w.part.nodes) (role_among (set w.forest t (Some replaced.after))) steps
+    c.watch_node.new.watch c.enter_way.new.watch)
+    (c.deref-4.ensures.value ∙ way)
+    (rw (c.in_ok-split_node.ensures.ok, replaced.new_is) at c.in_ok-enter_way.ensures) in
     let scope = c.requires.scope in
     let limits = kept_limits w.part (scope_graph c.scope.result.now) c.scope.result.now.plan.now c.scope.result.now.node
     (ap scope_graph c.scope.ensures ∙ scope.graph)
@@ -235,7 +288,7 @@ returns c =
     (IfOk-weaker _ _ _
     (λ _
     (added : c.add_matches.new.matching
-    ≡ record { matches = w.part.matching.matches ++ c.deref-4.result.now; unmatched = w.part.matching.unmatched }).
+    ≡ record { matches = w.part.matching.matches ++ c.deref-5.result.now; unmatched = w.part.matching.unmatched }).
     rw (added, matches, replaced.new_is) (record {
       scope = record {
         graph = scope.graph;
@@ -247,9 +300,11 @@ returns c =
             c.forget_all.new.links c.open_up-cycle.new.self replaced.after c.watch_node.new.watch has c.args.pieces.now.parts.seams scope.listed;
       };
       keeps = ring_opened w t g at are c.args.node e c.child_at-above.result c.child_at-below.result opens
-          c.forget_all.new.links c.open_up-cycle.new.self replaced.after c.watch_node.new.watch has c.requires.empty.0 limits;
+          c.forget_all.new.links c.open_up-cycle.new.self replaced.after c.watch_node.new.watch has c.requires.empty.0 limits
+          c.enter_way.new.watch enters;
       grows_on = ring_goes_on w t g at are c.args.node e c.child_at-above.result c.child_at-below.result opens
-          c.forget_all.new.links c.open_up-cycle.new.self replaced.after c.watch_node.new.watch has c.requires.empty.0 limits;
+          c.forget_all.new.links c.open_up-cycle.new.self replaced.after c.watch_node.new.watch has c.requires.empty.0 limits
+          c.enter_way.new.watch enters;
     })) c.add_matches.ensures)
 
 pub branch-branch-requires : goal.branch-branch-requires

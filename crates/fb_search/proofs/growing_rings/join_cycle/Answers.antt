@@ -1,4 +1,4 @@
-use Rattle.std.proofs.Common.{◌∙◌, ◌∷◌, []}
+use Rattle.std.proofs.Common.{◌∙◌}
 use Rattle.fb_graph.proofs.Sets.{is_in-head}
 use Rattle.fb_trees.proofs.Names.{plus_in_tree}
 use Rattle.fb_search.specs.InternalGrowing.{forest_links, growing_of}

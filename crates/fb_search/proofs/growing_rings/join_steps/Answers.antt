@@ -9,7 +9,7 @@ use Rattle.fb_search.specs.InternalClosings.{IsReplacedBy}
 use Rattle.fb_search.specs.InternalGrowing.{GrowingValue, growing_of}
 use Rattle.fb_search.proofs.ClosedCycles.{steps_join, steps_live, steps_odd, steps_outer, steps_round}
 use Rattle.fb_search.proofs.ListedSteps.{scope_is}
-use Rattle.fb_search.proofs.RingCycles.{first_at, first_inside, first_of, ring_closes, ring_replaced, some_gone}
+use Rattle.fb_search.proofs.RingCycles.{first_at, first_inside, first_of, ring_closes, ring_replaced}
 use Rattle.fb_search.proofs.RingSearches.{ring_made, ring_new, ring_root_new, tree_now}
 use Rattle.fb_search.proofs.growing_rings.join_steps.Goals as goal
 

@@ -3,7 +3,7 @@ use Rattle.std.proofs.lemmas.List.{take_all}
 use Rattle.fb_regions.specs.InternalPlaces.{place_in}
 use Rattle.fb_trees.specs.Branches.{entries_of}
 use Rattle.fb_trees.specs.InternalPlaces.{place_of, place_or}
-use Rattle.fb_trees.proofs.Marking.{all_entered, entered_next}
+use Rattle.fb_trees.proofs.Marking.{entered_next}
 use Rattle.fb_trees.proofs.places.enter_all.Goals as goal
 
 pub loop-at-preserved : goal.loop-at-preserved
@@ -13,16 +13,8 @@ loop-at-preserved c = (
   c.enter.ensures.count ∙ c.loop-at.invariant.1,
 )
 
-pub returns-clause-entries : goal.returns-clause-entries
-returns-clause-entries c name =
+pub returns : goal.returns
+returns c name =
     c.loop-at.invariant.0 name
     ∙ ap (λ bs. place_or (place_of (entries_of bs) name) (place_in c.args.places.now.items name))
     (take_all c.loop-at.at c.args.branches.now c.loop-at-test.false)
-
-pub returns-clause-places : goal.returns-clause-places
-returns-clause-places c =
-    all_entered (entries_of c.args.branches.now) c.args.places.now.items c.loop-at.places.items
-    (λ name.
-    c.loop-at.invariant.0 name
-    ∙ ap (λ bs. place_or (place_of (entries_of bs) name) (place_in c.args.places.now.items name))
-    (take_all c.loop-at.at c.args.branches.now c.loop-at-test.false))

@@ -3,7 +3,7 @@ use Rattle.std.proofs.lemmas.List.{take_all}
 use Rattle.fb_regions.specs.InternalPlaces.{place_in}
 use Rattle.fb_trees.specs.Branches.{entries_of}
 use Rattle.fb_trees.specs.InternalPlaces.{has_branch}
-use Rattle.fb_trees.proofs.Marking.{all_emptied, removed_next}
+use Rattle.fb_trees.proofs.Marking.{removed_next}
 use Rattle.fb_trees.proofs.places.take_out_all.Goals as goal
 
 pub loop-branch-preserved : goal.loop-branch-preserved
@@ -19,11 +19,3 @@ returns-clause-entries c name =
     c.loop-branch.invariant.0 name
     ∙ ap (λ bs. if has_branch (entries_of bs) name then None else place_in c.args.places.now.items name)
     (take_all c.loop-branch.branch-index c.args.branches.now c.loop-branch-test.false)
-
-pub returns-clause-empty : goal.returns-clause-empty
-returns-clause-empty c =
-    all_emptied (entries_of c.args.branches.now) c.args.places.now.items c.loop-branch.places.items
-    (λ name.
-    c.loop-branch.invariant.0 name
-    ∙ ap (λ bs. if has_branch (entries_of bs) name then None else place_in c.args.places.now.items name)
-    (take_all c.loop-branch.branch-index c.args.branches.now c.loop-branch-test.false))

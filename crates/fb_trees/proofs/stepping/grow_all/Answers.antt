@@ -1,4 +1,4 @@
-use Rattle.std.proofs.Common.{◌≡◌, ◌<◌, ◌≤◌, [], ◌∷◌, ◌++◌, length, sym, take, subst, ap, ◌∙◌, arith}
+use Rattle.std.proofs.Common.{◌<◌, ◌≤◌, [], ◌∷◌, ◌++◌, length, sym, take, subst, ap, ◌∙◌, arith}
 use Rattle.fb_graph.specs.Dual.{Dual}
 use Rattle.fb_graph.specs.Steps.{stepped_nodes}
 use Rattle.fb_trees.specs.Forests.{all_minus, all_plus, tree_at, trees_in}

@@ -55,7 +55,7 @@ invariant_of-self c =
     let at = taken_is p roles w.part.nodes c.args.edge a _ (ap (λ g. g.edges) graph) c.free_end-taken.result c.free_end-taken.ensures in
     rw (c.absorb.ensures, absorbed_are p roles w.part.nodes c.args.edge a _ (ap (λ g. g.edges) scope.graph)) (
       record { graph = scope.graph; plan = scope.plan; node = scope.node; listed = scope.listed; defects = scope.defects },
-      growing_taller forest_state_absorbed w c.args.edge a.from a.to a.name c.watch_taken.new.watch c.self.invariant.1 limits a.may
+      growing_taller forest_state_absorbed w c.args.edge a.from a.to a.name c.watch_taken.new.watch c.self.invariant.1 limits a.may a.plus
           c.keeps.ensures.within
           (kept_taken w.part (scope_graph c.scope.result.now) c.scope.result.now.plan.now c.scope.result.now.node c.free_end-taken.result a.to _ _
           (absorbed_nodes a.name a.to w.part.nodes) w.watched c.watch_taken.new.watch graph at (ap (λ r. r.nodes) c.absorb.ensures)

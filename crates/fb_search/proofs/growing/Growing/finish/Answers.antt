@@ -1,14 +1,9 @@
 use Rattle.fb_half.specs.Values.{part_of}
 use Rattle.fb_search.specs.InternalGrowing.{GrowingValue}
-use Rattle.fb_search.proofs.FinishedGrowth.{finished_part, finished_through}
+use Rattle.fb_search.proofs.FinishedGrowth.{finished_part}
 use Rattle.fb_search.proofs.growing.Growing.finish.Goals as goal
 
 pub from_parts-requires-clause-part : goal.from_parts-requires-clause-part
 from_parts-requires-clause-part c =
     let w : GrowingValue = record { part = part_of c.self.inside.parts; forest = c.self.inside.forest; watched = c.self.inside.watch } in
     finished_part w c.self.invariant.1 (rw (← c.self.view_is) at c.requires)
-
-pub returns-clause-part : goal.returns-clause-part
-returns-clause-part c =
-    let w : GrowingValue = record { part = part_of c.self.inside.parts; forest = c.self.inside.forest; watched = c.self.inside.watch } in
-    rw (← c.self.view_is, c.from_parts.ensures) (finished_through w c.self.invariant.1 (rw (← c.self.view_is) at c.requires))

@@ -7,7 +7,7 @@ use Rattle.fb_half.specs.Values.{part_of}
 use Rattle.fb_laws.proofs.ForestMoves.{forest_state_stepped}
 use Rattle.fb_trees.specs.Forests.{all_roles, trees_in}
 use Rattle.fb_search.specs.InternalGrowing.{GrowingValue, roles_among}
-use Rattle.fb_search.specs.InternalProgress.{lowered_by}
+use Rattle.fb_search.specs.InternalGrowth.{lowered_by}
 use Rattle.fb_search.proofs.BegunSearches.{kept_limits}
 use Rattle.fb_search.proofs.GrowingRoles.{part_even, trees_over}
 use Rattle.fb_search.proofs.GrownSteps.{growing_stepped, grown_fits, grown_in_scope, may_grow, trees_in_scope}
@@ -31,7 +31,7 @@ overflow_mul-by c =
     let w : GrowingValue = record { part = part_of c.self.inside.parts; forest = c.self.inside.forest; watched = c.self.inside.watch } in
     let may : MayStep (problem_in w.part) (all_roles (trees_in w.forest)) w.part.nodes c.args.by =
     may_grow w c.args.by c.self.invariant.1 (rw (← c.self.view_is) at c.requires.may) in
-    let some : 1 ≤ length w.part.matching.unmatched = rw (← c.self.view_is) at c.requires.some in
+    let some : 1 ≤ length (trees_in w.forest) = rw (← c.self.view_is) at c.requires.some in
     let scope = c.self.invariant.0 in
     let limits : IsWithinLimits (problem_in w.part) =
     kept_limits w.part (scope_graph c.scope.result.now) c.scope.result.now.plan.now c.scope.result.now.node

@@ -1,5 +1,4 @@
 use Rattle.std.proofs.Common.{sym, subst}
-use Rattle.fb_trees.specs.Forests.{IsMinusNode}
 use Rattle.fb_trees.specs.Rooted.{IsMinus}
 use Rattle.fb_trees.proofs.ForestReads.{minus_inside}
 use Rattle.fb_trees.proofs.forest.Forest.branch.Goals as goal

@@ -5,7 +5,7 @@ use Rattle.fb_trees.specs.Branches.{entries_of}
 use Rattle.fb_trees.specs.Rooted.{IsRooted, is_node}
 use Rattle.fb_trees.proofs.Lookups.{has_place, read_own}
 use Rattle.fb_trees.proofs.Names.{minus_in_names}
-use Rattle.fb_trees.proofs.Replaced.{minus_has_place, opened_at, some_branch}
+use Rattle.fb_trees.proofs.Replaced.{minus_has_place, some_branch}
 use Rattle.fb_trees.proofs.ReplacedTrees.{opened_as}
 use Rattle.fb_trees.proofs.tree_view.TreeView.opened.Goals as goal
 
