@@ -1,10 +1,8 @@
 -- What the loop over batches keeps.
-use Rattle.std.specs.Prelude.{ℕ, ◌≡◌, ◌+◌, ◌==◌, ◌&&◌, Bool, pos, List, length, Option}
-use Rattle.std.specs.Ordering.{int_eq}
+use Rattle.std.specs.Prelude.{ℕ, ◌≡◌, ◌+◌, List, Option}
 use Rattle.fb_crew.specs.declared.window.Window.{Window}
 use Rattle.fb_graph.specs.declared.parts.Row.{Row}
-use Rattle.fb_graph.specs.Limits.{DecodingGraph, ShotValue}
-use Rattle.fb_graph.specs.Signs.{base_of}
+use Rattle.fb_graph.specs.Limits.{ShotValue}
 use Rattle.fb_inputs.specs.Taking.{TakesWindow}
 use Rattle.fb_inputs.specs.declared.taking.ShotsEnd.{ShotsEnd}
 use Rattle.fb_plan.specs.Plans.{PlanTree}
@@ -13,10 +11,6 @@ use Rattle.fb_run.specs.Rows.{counts_of}
 use Rattle.fb_run.specs.declared.batches.Tally.{Tally}
 use Rattle.fb_shots.specs.Streams.{Stream}
 use Rattle.fb_request.specs.Requests.{Decoding}
-
--- the shot has no defect, and no edge weighs less than 0 for it, so that its correction is no edge
-abbrev pub has_nothing : DecodingGraph → ShotValue → Bool
-has_nothing g shot = (length shot.defects == 0) && int_eq (base_of g shot) (pos 0)
 
 abbrev pub batch_in : Window → Batch
 batch_in w = record { rows = w.rows.items; history = w.history.items }

@@ -7,6 +7,7 @@ pub mod Samples
 pub mod SampleEndings
 pub mod RunEndings
 pub mod InternalBatches
+pub mod InternalBusy
 pub mod InternalSums
 pub mod ReadBack
 pub mod Promise

@@ -1,7 +1,6 @@
 //! The shots of a file, decoded batch by batch.
 
-ghost use Rattle.std.specs.Prelude.{◌≡◌, ◌+◌, ◌++◌, ◌^◌, ◌<◌, ◌≤◌, ◌==◌, [], true, pos, length, replicate, All, Some, IfOk, OnOk, OnErr, Err};
-ghost use Rattle.std.specs.List.{list_all};
+ghost use Rattle.std.specs.Prelude.{◌≡◌, ◌+◌, ◌++◌, ◌^◌, ◌<◌, ◌≤◌, [], true, length, All, Some, IfOk, OnOk, OnErr, Err};
 ghost use Rattle.fb_graph.specs.Limits.{IsGraph, IsShot};
 ghost use Rattle.fb_ports.specs.Causes.{Appends, AppendsPrefix, CountsFault};
 ghost use Rattle.fb_shots.specs.Steps.{IsReadOut};
@@ -12,13 +11,14 @@ ghost use Rattle.fb_report.specs.Texts.{rows_text};
 ghost use Rattle.fb_crew.specs.Windows.{AreRows, IsHistoryOf};
 ghost use Rattle.fb_book.specs.declared.limits.TheConstants.{MOST_AT_ONCE};
 ghost use Rattle.fb_run.specs.Decoding.{batch_text, cause_of, events_text};
-ghost use Rattle.fb_run.specs.InternalBatches.{AddsCounts, TakesBatch, batch_in, has_nothing};
+ghost use Rattle.fb_run.specs.InternalBatches.{AddsCounts, TakesBatch, batch_in};
 ghost use Rattle.fb_run.specs.InternalWrites.{WritesBatches, WritesFirstBatches, counts_in, tally_with};
 ghost use Rattle.fb_request.specs.PlainRequests.{plain_decoding};
 
+use crate::busy::decode_busy;
 use fb_crew::{Crew, Entry, Gate, Kind, Window};
 use fb_endings::Cause;
-use fb_graph::{CutList, Graph, NoMemory, NumberList, Row, Shot};
+use fb_graph::{Graph, NoMemory, Row, Shot};
 use fb_inputs::{MOST_SHOTS, Outbox, RowsFault, ShotsEnd, take_window};
 use fb_ports::{Files, Sink};
 use fb_report::{write_row, write_trace};
@@ -195,7 +195,7 @@ fn next_batch<F: Files, G: Gate, R: Threads + Sync>(
     ensures never_falls { F.faults files.old ≤ F.faults files.new }
 {
     let taken = take_window(alloc, files, stream, request.window as usize)?;
-    let batch = solve_batch(rt, alloc, crew, request.trace, taken.shots.as_slice(), gate)?;
+    let batch = solve_batch(rt, alloc, crew, request.trace, taken.shots, gate)?;
     Ok(NextBatch {
         batch,
         end: taken.end,
@@ -209,47 +209,21 @@ fn solve_batch<G: Gate, R: Threads + Sync>(
     alloc: Global,
     crew: &mut Crew<'_>,
     trace: bool,
-    shots: &[Shot],
+    shots: Vec<Shot>,
     gate: &G,
 ) -> Result<Window, NoMemory>
-    requires shots { All (IsShot crew.old.graph) shots.now }
-    requires few { length shots.now ≤ MOST_AT_ONCE }
-    ensures rows { IfOk result (λ w. AreRows crew.old.graph shots.now w.rows.items) }
+    requires shots { All (IsShot crew.old.graph) shots.items }
+    requires few { length shots.items ≤ MOST_AT_ONCE }
+    ensures rows { IfOk result (λ w. AreRows crew.old.graph shots.items w.rows.items) }
     ensures history { trace ≡ true → IfOk result (λ w. IsHistoryOf crew.old.plan crew.old.workers w.rows.items w.history.items) }
     ensures same { crew.new ≡ crew.old }
     ensures graph { IsGraph crew.old.graph }
 {
-    let graph = crew.graph();
-    graph.limits();
-    if !trace && are_empty(graph, shots) {
-        return empty_rows(alloc, shots.len());
+    crew.graph().limits();
+    if trace {
+        return crew.decode_window(rt, alloc, shots.as_slice(), gate);
     }
-    crew.decode_window(rt, alloc, shots, gate)
-}
-
-/// Whether none of the shots has a defect, nor an edge of negative weight.
-fn are_empty(graph: &Graph, shots: &[Shot]) -> bool
-    requires { All (IsShot graph.now) shots.now }
-    ensures { result ≡ list_all (has_nothing graph.now) shots.now }
-{
-    shots
-        .iter()
-        .all(|shot| shot.is_empty() && shot.base(graph) == 0)
-}
-
-/// The rows of `count` shots without a defect and without an edge of negative weight.
-fn empty_rows(alloc: Global, count: usize) -> Result<Window, NoMemory>
-    ensures { IfOk result (λ w. w.rows.items ≡ replicate count (Row.Best [] (pos 0) (pos 0) [])) }
-{
-    let mut rows = Vec::with_capacity(alloc, count)?;
-    for _ in 0..count {
-        rows.push(Row::Best {
-            edges: NumberList::from_vec(Vec::new(alloc)),
-            base: 0,
-            weight: 0,
-            cuts: CutList::from_vec(Vec::new(alloc)),
-        })?;
-    }
+    let rows = decode_busy(rt, alloc, crew, shots, gate)?;
     Ok(Window {
         rows,
         history: Vec::new(alloc),

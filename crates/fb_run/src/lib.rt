@@ -3,6 +3,7 @@
 #![tactic(auto)]
 
 mod batches;
+mod busy;
 mod decoding;
 mod laws;
 mod running;
