@@ -77,6 +77,7 @@ fn main(rt: HostRuntime) -> io::Result<()> {
         ("a history goes by slot, then node", slots::list_by_item(alloc)),
         ("the calling thread does each item once", workers::work_on_the_calling_thread(alloc)),
         ("fused parts keep their layers", parts::keep_their_layers(alloc)),
+        ("trees grow at once", parts::grow_at_once(alloc)),
         ("parts list their defects", parts::list_their_defects(alloc)),
         ("parts give the root their cuts", parts::give_the_root_their_cuts(&rt, alloc)),
         ("posted parts have all defects matched", parts::have_all_defects_matched(&rt, alloc)),

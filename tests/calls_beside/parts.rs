@@ -8,7 +8,7 @@ use fb_graph::{NoMemory, Row, Scope, Shot, Steps, components};
 use fb_half::{Half, Standing, Work};
 use fb_plan::{Job, Join, Plan};
 use fb_resolve::resolve;
-use fb_search::search;
+use fb_search::{search, search_all};
 use fb_unit::solve_unit;
 use std::alloc::Global;
 use std::marker::Brand;
@@ -53,7 +53,7 @@ fn fuse_units<'a, L: Ledger>(
     Ok(resolve(alloc, &whole)?)
 }
 
-/// A fusion keeps the layers of the left part that it doesn't touch: those that grew from 3, or those from 1.
+/// A fusion keeps the layers of the left part that it doesn't touch: those that grew from 1 and 3 at once, or those from 3.
 pub fn keep_their_layers(alloc: Global) -> Result<(), Stopped> {
     let line = Line::new(alloc, &WEIGHTS, &[4])?;
     let mut shots = Vec::new(alloc);
@@ -62,11 +62,11 @@ pub fn keep_their_layers(alloc: Global) -> Result<(), Stopped> {
     let row = fuse_units::<Brand>(alloc, &job, false, Blank::new(1))?;
     let cuts = [
         (2, [1].as_slice()),
-        (2, [1, 2].as_slice()),
+        (2, [3].as_slice()),
         (6, [4, 5].as_slice()),
         (4, [5].as_slice()),
     ];
-    Stopped::unless(is_row(&row, &[1, 2, 5], 14, &cuts), "a row of units solved from their first defects")?;
+    Stopped::unless(is_row(&row, &[1, 2, 5], 14, &cuts), "a row of units solved from all defects at once")?;
     let row = fuse_units::<Brand>(alloc, &job, true, Blank::new(1))?;
     let cuts = [
         (2, [2, 3].as_slice()),
@@ -75,6 +75,24 @@ pub fn keep_their_layers(alloc: Global) -> Result<(), Stopped> {
         (4, [5].as_slice()),
     ];
     Stopped::unless(is_row(&row, &[1, 2, 5], 14, &cuts), "a row of a unit solved from its last defect")
+}
+
+/// The row of the whole shot, by trees from all defects at once.
+fn search_at_once<'a, L: Ledger>(alloc: Global, job: &'a Job<'a>, blank: Blank) -> Result<Row, NoMemory> {
+    let mut steps = Steps::<L>::new(blank);
+    let work = search_all(alloc, Work::begin(alloc, job, 0, 0)?, &mut steps)?;
+    Ok(resolve(alloc, &work.close())?)
+}
+
+/// Trees from all defects grow at once: each of the two grows as far as the other one.
+pub fn grow_at_once(alloc: Global) -> Result<(), Stopped> {
+    let line = Line::new(alloc, &[20, 4, 4, 20], &[])?;
+    let mut shots = Vec::new(alloc);
+    shots.push(line.shot(alloc, &[1, 3])?)?;
+    let job = Job::new(&line.graph, &line.plan, shots);
+    let row = search_at_once::<Brand>(alloc, &job, Blank::new(1))?;
+    let cuts = [(4, [1].as_slice()), (4, [3].as_slice())];
+    Stopped::unless(is_row(&row, &[1, 2], 8, &cuts), "a row of trees that grow at once")
 }
 
 /// Whether the parts of both units, and of their fusion, list these defects.
@@ -137,17 +155,17 @@ fn row_of_pair<R: Threads + Sync>(
     Ok(window.rows)
 }
 
-/// The root's row has the cuts of both units, each of which meets the seam; without a plan one defect alone grows.
+/// The root's row has the cuts of both units, each of which meets the seam; without a plan both defects grow as far.
 pub fn give_the_root_their_cuts<R: Threads + Sync>(rt: &R, alloc: Global) -> Result<(), Stopped> {
-    let line = Line::new(alloc, &[40, 2, 2, 40], &[2])?;
+    let line = Line::new(alloc, &[40, 2, 6, 40], &[2])?;
     for workers in 1..3 {
         let rows = row_of_pair(rt, alloc, &line, &line.plan, workers)?;
-        let cuts = [(2, [1].as_slice()), (2, [3].as_slice())];
-        Stopped::unless(rows.len() == 1 && is_row(&rows[0], &[1, 2], 4, &cuts), "the cuts of two units")?;
+        let cuts = [(2, [1].as_slice()), (6, [3].as_slice())];
+        Stopped::unless(rows.len() == 1 && is_row(&rows[0], &[1, 2], 8, &cuts), "the cuts of two units")?;
     }
     let rows = row_of_pair(rt, alloc, &line, &Plan::single(alloc, &line.graph)?, 1)?;
-    let cuts = [(2, [1].as_slice()), (2, [1, 2].as_slice())];
-    Stopped::unless(rows.len() == 1 && is_row(&rows[0], &[1, 2], 4, &cuts), "the cuts without a plan")
+    let cuts = [(2, [1].as_slice()), (2, [1, 2].as_slice()), (4, [3].as_slice())];
+    Stopped::unless(rows.len() == 1 && is_row(&rows[0], &[1, 2], 8, &cuts), "the cuts without a plan")
 }
 
 /// The hands of the product, which look at each item that they have solved.
