@@ -4,7 +4,6 @@ ghost use Rattle.std.specs.Prelude.{◌≡◌, ◌<◌, ◌+◌, true, All, IfOk
 ghost use Rattle.fb_graph.specs.Certificate.{AreDistinct};
 ghost use Rattle.fb_graph.specs.Parity.{is_in};
 ghost use Rattle.fb_half.specs.Parts.{problem_in};
-ghost use Rattle.fb_search.specs.InternalGrowth.{Blocks, GrowsOn};
 ghost use Rattle.fb_search.specs.InternalGrowthRuns.{AreMatched, HasGrownThrough};
 
 use crate::growing::Growing;
@@ -71,35 +70,17 @@ fn grow_through<'a, L: Ledger>(
     while !growing.is_done() {
         growing.make_room()?;
         growing.keeps();
-        let obstacle = growing.next_event(&mut looks);
-        let next = growing.clear(alloc, obstacle)?;
-        next.keeps();
-        growing = next;
-    }
-    Ok(growing)
-}
-
-impl<'a> Growing<'a> {
-    /// Removes the obstacle.
-    fn clear(mut self, alloc: Global, obstacle: Obstacle) -> Result<Growing<'a>, NoMemory>
-        requires { Blocks self obstacle }
-        ensures { IfOk result (GrowsOn self.entry) }
-    {
-        match obstacle {
-            Obstacle::Absorb(edge) => {
-                self.absorb(edge);
-                Ok(self)
-            }
-            Obstacle::LayerEmpty(node) => {
-                self.uncover(node);
-                Ok(self)
-            }
-            Obstacle::Boundary(edge) => self.end_at_boundary(alloc, edge),
-            Obstacle::Meet(edge) => self.meet(alloc, edge),
-            Obstacle::PlusPair(edge) => self.join_or_match(alloc, edge),
-            Obstacle::BlossomEmpty(node) => self.open(alloc, node),
-            Obstacle::ZeroMinus(node) => self.round(alloc, node),
+        match growing.next_event(&mut looks) {
+            Obstacle::Absorb(edge) => growing.absorb(edge),
+            Obstacle::LayerEmpty(node) => growing.uncover(node),
+            Obstacle::Boundary(edge) => growing = growing.end_at_boundary(alloc, edge)?,
+            Obstacle::Meet(edge) => growing = growing.meet(alloc, edge)?,
+            Obstacle::PlusPair(edge) => growing = growing.join_or_match(alloc, edge)?,
+            Obstacle::BlossomEmpty(node) => growing = growing.open(alloc, node)?,
+            Obstacle::ZeroMinus(node) => growing = growing.round(alloc, node)?,
             Obstacle::Free(_) => unreachable!(),
         }
+        growing.keeps();
     }
+    Ok(growing)
 }
