@@ -19,6 +19,8 @@ from measuring import (
     write_graph,
 )
 
+from graphs import weightless_tree
+
 # The defects of a shot, and its further members.
 Shot = namedtuple("Shot", "defects members")
 
@@ -133,16 +135,10 @@ def bench_few_changes(folder, quick):
 # Weightless edges of the graph.
 
 
-def weightless_tree(vertices):
-    """A tree in which each vertex is joined to a random earlier one, by an edge of no weight."""
-    draw = random.Random(1)
-    return Graph(vertices, [(draw.randrange(v), v, 0) for v in range(1, vertices)], [])
-
-
 def bench_tree(folder, quick):
     print_line("weightless random tree", ["defects", "reading s", "shot s", "of reading"])
     for vertices in [10_000] if quick else [20_000, 80_000]:
-        graph = weightless_tree(vertices)
+        graph = weightless_tree(random.Random(1), vertices)
         write_graph(graph, folder / "graph.json")
         write_lines([], folder / "shots")
         reading = least_run(decode(folder, "json"), folder).processor_seconds

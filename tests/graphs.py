@@ -93,15 +93,45 @@ def grid(draw):
     return Graph(side * side, edges, draw.choice([[], [row * side for row in range(side)]]))
 
 
+def nest(levels):
+    """Pairs of vertices, each of them beside a last one, from which alone an edge leads to the boundary. With all real
+    vertices as defects the pairs are matched first, and then the last one takes up pair after pair, each by a blossom round all
+    before."""
+    last = 2 * levels
+    edges = [edge for v in range(0, last, 2) for edge in [(v, v + 1, 2), (last, v, 4), (last, v + 1, 4)]]
+    return Graph(last + 2, [*edges, (last, last + 1, 2**20)], [last + 1])
+
+
+def weightless_tree(draw, vertices):
+    """A tree in which each vertex is joined to a random earlier one, by an edge of no weight."""
+    return Graph(vertices, [(draw.randrange(v), v, 0) for v in range(1, vertices)], [])
+
+
+def joined(parts, numbers=None):
+    """The graphs side by side in one. Their vertices have these numbers in turn, or else those from 0."""
+    firsts = [0, *accumulate(part.vertices for part in parts)]
+    numbers = numbers or range(firsts[-1])
+    edges = [(numbers[first + u], numbers[first + v], weight) for first, part in zip(firsts, parts) for u, v, weight in part.edges]
+    return Graph(firsts[-1], edges, [numbers[first + v] for first, part in zip(firsts, parts) for v in part.virtuals])
+
+
 def side_by_side(draw, count):
     """So many random graphs in one, a few of them long lines and the others tiny; often with the numbers of all mixed."""
     parts = [(long_line if draw.random() < 0.02 else tiny_graph)(draw) for _ in range(count)]
-    firsts = [0, *accumulate(part.vertices for part in parts)]
-    numbers = list(range(firsts.pop()))
+    numbers = list(range(sum(part.vertices for part in parts)))
     if draw.random() < 0.7:
         draw.shuffle(numbers)
-    edges = [(numbers[first + u], numbers[first + v], weight) for first, part in zip(firsts, parts) for u, v, weight in part.edges]
-    return Graph(len(numbers), edges, [numbers[first + v] for first, part in zip(firsts, parts) for v in part.virtuals])
+    return joined(parts, numbers)
+
+
+def subdivided(graph):
+    """The graph with a vertex more in the middle of each edge, so that no two of its own vertices are adjacent."""
+    edges, vertices = [], graph.vertices
+    for u, v, weight in graph.edges:
+        half = weight // 4 * 2
+        edges += [(u, vertices, half), (vertices, v, weight - half)]
+        vertices += 1
+    return Graph(vertices, edges, graph.virtuals)
 
 
 def turned(draw, weights, count):
