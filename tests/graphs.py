@@ -1,4 +1,4 @@
-"""Random graphs of many shapes, and shots on them.
+"""Graphs of many shapes, most of them random, and shots on them.
 
 Rings in rings, stars, long lines, complete graphs, grids, parallel edges and edges of no weight or of the greatest, and
 any of them with negative edges.
