@@ -41,6 +41,9 @@ pub fn match_all_from<'a, L: Ledger>(
     ensures most { IfOk result (λ _. steps.new ≤ steps.old + length work.entry.matching.unmatched) }
     ensures least { IfOk result (λ _. length work.entry.matching.unmatched + 2 * steps.old ≤ 2 * steps.new) }
 {
+    if work.unmatched().is_empty() {
+        return Ok((work, scratch));
+    }
     let (work, scratch) = match_nearest(alloc, work, roots, scratch, steps)?;
     let (work, scratch) = match_batches(alloc, work, scratch, steps)?;
     match work.unmatched() {

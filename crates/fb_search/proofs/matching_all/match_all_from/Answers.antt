@@ -17,10 +17,10 @@ all_searched root before after one is = none_in after.matching.unmatched (omega 
 
 pub search_from-requires-clause-unmatched : goal.search_from-requires-clause-unmatched
 search_from-requires-clause-unmatched g c =
-    ap (λ l. is_in l (get_or c.unmatched.result.now 0 0)) (sym c.unmatched.ensures)
-    ∙ is_in_at c.unmatched.result.now 0 0 (omega (arith, c.in-len1.len_at_least))
+    ap (λ l. is_in l (get_or c.unmatched-2.result.now 0 0)) (sym c.unmatched-2.ensures)
+    ∙ is_in_at c.unmatched-2.result.now 0 0 (omega (arith, c.in-len1.len_at_least))
 
 pub returns-in-len1-clause-none : goal.returns-in-len1-clause-none
 returns-in-len1-clause-none g c =
-    let one : length c.in_ok-work-2.work.matching.unmatched < 2 = omega (arith, ap length c.unmatched.ensures, c.in-len1.len_below) in
+    let one : length c.in_ok-work-2.work.matching.unmatched < 2 = omega (arith, ap length c.unmatched-2.ensures, c.in-len1.len_below) in
     IfOk-weaker c.search_from.result _ _ (λ r is. all_searched _ c.in_ok-work-2.work r.0 one is) c.search_from.ensures.searched
