@@ -11,7 +11,7 @@ use Rattle.fb_verify.specs.VerdictTexts.{is_bad}
 use Rattle.fb_verify.specs.Verdicts.{IsVerdict}
 use Rattle.fb_verify.specs.declared.verdicts.Verdict.{Verdict}
 use Rattle.fb_check.specs.Checks.{AreVerdicts, IsPairVerdict, bad_count, pairs_of, verdict_line, verdict_lines}
-use Rattle.fb_inputs.specs.Outboxes.{Moves}
+use Rattle.fb_ports.specs.Outboxes.{Moves}
 use Rattle.fb_check.specs.InternalJudges.{AddsLine, JudgesNext}
 
 -- The rows of these shots have been judged. Their lines are what was written and then what waits.

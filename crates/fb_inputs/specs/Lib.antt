@@ -1,5 +1,4 @@
 pub mod Judging
 pub mod InternalGathers
 pub mod Moments
-pub mod Outboxes
 pub mod Taking

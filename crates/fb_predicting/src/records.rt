@@ -11,8 +11,7 @@ ghost use Rattle.fb_verify.specs.declared.report_faults.ReportFault.TheVariants.
 
 use fb_endings::Cause;
 use fb_graph::{CutList, Row};
-use fb_inputs::Outbox;
-use fb_ports::Sink;
+use fb_ports::{Outbox, Sink};
 use fb_predict::{Observables, write_bits};
 use fb_request::Coding;
 use fb_verify::{Line, NextLine, ReportFault, ReportLines};

@@ -5,9 +5,8 @@ ghost use Rattle.fb_ports.specs.Causes.{Appends, AppendsPrefix, CountsFault};
 ghost use Rattle.fb_run.specs.Samples.{sample_head, sample_text, sizes_line, sums_line, work_line};
 ghost use Rattle.fb_request.specs.PlainRequests.{plain_sampling};
 
-use fb_inputs::{Outbox, RowsFault};
 use fb_plan::Plan;
-use fb_ports::{Failed, Sink, put_all, put_parts};
+use fb_ports::{Failed, Outbox, RowsFault, Sink, put_all, put_parts};
 use fb_request::Sampling;
 use itoa::Buffer;
 use std::alloc::Global;

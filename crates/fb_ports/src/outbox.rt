@@ -2,10 +2,10 @@
 
 ghost use Rattle.std.specs.Prelude.{◌≡◌, ◌<◌, [], Some, length, OnOk, OnErr};
 ghost use Rattle.fb_ports.specs.Causes.{Appends, AppendsPrefix, HasCause};
-ghost use Rattle.fb_inputs.specs.Outboxes.{Moves};
-ghost use Rattle.fb_inputs.specs.declared.outbox.TheConstants.{ENOUGH};
+ghost use Rattle.fb_ports.specs.Outboxes.{Moves};
+ghost use Rattle.fb_ports.specs.declared.outbox.TheConstants.{ENOUGH};
 
-use fb_ports::{Failed, Sink, put_all};
+use crate::{Failed, Sink, put_all};
 use std::alloc::Global;
 use std::marker::Model;
 
@@ -27,7 +27,7 @@ pub struct Outbox {
 }
 
 impl Model for Outbox {
-    ghost use Rattle.fb_inputs.specs.Outboxes.{Pending};
+    ghost use Rattle.fb_ports.specs.Outboxes.{Pending};
 
     ghost Value = { Pending };
 
