@@ -9,23 +9,23 @@ use Rattle.fb_shots.specs.Shots.{at_end}
 use Rattle.fb_request.specs.declared.format.Format.{Format}
 use Rattle.fb_shots.specs.Streams.{Stream, fresh}
 use Rattle.fb_check.specs.CheckEndings.{check_account, check_source}
-use Rattle.fb_endings.specs.TextEnds.{FirstOf, TextEnds, WritesPart, WritesWhole}
+use Rattle.fb_exits.specs.TextEnds.{FirstOf, TextEnds, WritesPart, WritesWhole}
 use Rattle.fb_check.specs.Checks.{bad_count, check_cause, check_head, check_last, verdict_lines}
-use Rattle.fb_endings.specs.Ends.{CountsReadFault, IsReadToItsEnd, MayFollowReadFault}
+use Rattle.fb_exits.specs.Ends.{CountsReadFault, IsReadToItsEnd, MayFollowReadFault}
 use Rattle.fb_check.specs.InternalJudges.{EndsCheck, JudgesAll, JudgesFirst, JudgesInto}
-use Rattle.fb_endings.proofs.InText.{appends_after}
-use Rattle.fb_inputs.specs.Judging.{HasFirstShots, HasShots, Named, most_shots}
-use Rattle.fb_inputs.specs.InternalGathers.{FirstFrom, Gathers, GathersFrom, IsOpened}
-use Rattle.fb_inputs.specs.Moments.{Moment}
+use Rattle.fb_exits.proofs.InText.{appends_after}
+use Rattle.fb_files.specs.Judging.{HasFirstShots, HasShots, Named, most_shots}
+use Rattle.fb_files.specs.InternalGathers.{FirstFrom, Gathers, GathersFrom, IsOpened}
+use Rattle.fb_files.specs.Moments.{Moment}
 use Rattle.fb_request.specs.Requests.{Checking}
 use Rattle.fb_check.specs.declared.checking.Judged.{Judged}
-use Rattle.fb_endings.specs.declared.ending.Cause.{Cause}
-use Rattle.fb_endings.specs.declared.ending.Cause.TheVariants.{Bad, Done, NoMemory, ReadFault}
-use Rattle.fb_inputs.specs.declared.taking.ShotsEnd.{ShotsEnd}
-use Rattle.fb_inputs.specs.declared.taking.ShotsEnd.TheVariants as end
-use Rattle.fb_inputs.proofs.Lists.{holds_more}
-use Rattle.fb_inputs.specs.Taking.{GivesShots}
-use Rattle.fb_inputs.proofs.Gathered.{first_of_none, gathers_opened, given_first, holds_opened}
+use Rattle.fb_exits.specs.declared.ending.Cause.{Cause}
+use Rattle.fb_exits.specs.declared.ending.Cause.TheVariants.{Bad, Done, NoMemory, ReadFault}
+use Rattle.fb_files.specs.declared.taking.ShotsEnd.{ShotsEnd}
+use Rattle.fb_files.specs.declared.taking.ShotsEnd.TheVariants as end
+use Rattle.fb_files.proofs.Lists.{holds_more}
+use Rattle.fb_files.specs.Taking.{GivesShots}
+use Rattle.fb_files.proofs.Gathered.{first_of_none, gathers_opened, given_first, holds_opened}
 use Rattle.fb_check.proofs.Lines.{IsJudging}
 
 -- A stream has given `shots`, and those that have a row are judged.

@@ -5,13 +5,13 @@ use Rattle.fb_graph.specs.declared.parts.Row.{Row}
 use Rattle.fb_verify.specs.declared.reports.Report.{Report}
 use Rattle.fb_verify.specs.declared.verdicts.Verdict.{Verdict}
 use Rattle.fb_check.specs.Checks.{AreVerdicts, bad_count, check_cause, check_head, check_last, verdict_lines}
-use Rattle.fb_endings.specs.Ends.{EndsAtFile, EndsInText, IsGraphRefusal, IsReportRefusal}
-use Rattle.fb_endings.specs.TextEnds.{Account, Source, TextEnds}
-use Rattle.fb_inputs.specs.Judging.{Asks, IsGraphText, IsReportText}
-use Rattle.fb_inputs.specs.Moments.{Moment, ReadsFile}
+use Rattle.fb_exits.specs.Ends.{EndsAtFile, EndsInText, IsGraphRefusal, IsReportRefusal}
+use Rattle.fb_exits.specs.TextEnds.{Account, Source, TextEnds}
+use Rattle.fb_files.specs.Judging.{Asks, IsGraphText, IsReportText}
+use Rattle.fb_files.specs.Moments.{Moment, ReadsFile}
 use Rattle.fb_request.specs.Requests.{Checking}
-use Rattle.fb_endings.specs.declared.ending.Cause.{Cause}
-use Rattle.fb_endings.specs.declared.ending.Cause.TheVariants.{NoMemory}
+use Rattle.fb_exits.specs.declared.ending.Cause.{Cause}
+use Rattle.fb_exits.specs.declared.ending.Cause.TheVariants.{NoMemory}
 
 -- a check writes the verdict on the row of each shot that has one
 abbrev pub check_account : DecodingGraph → List Row → Account Verdict

@@ -8,11 +8,11 @@ use Rattle.fb_verify.specs.Verdicts.{IsVerdict}
 use Rattle.fb_verify.specs.declared.verdicts.Verdict.{Verdict}
 use Rattle.fb_check.specs.Checks.{AreVerdicts, bad_count, check_cause, check_last, verdict_line, verdict_lines}
 use Rattle.fb_check.specs.declared.checking.Judged.{Judged}
-use Rattle.fb_endings.specs.declared.ending.Cause.{Cause}
-use Rattle.fb_endings.specs.declared.ending.Cause.TheVariants.{Refused, ReadFault, WriteFault}
-use Rattle.fb_endings.specs.declared.ending.Refusal.TheVariants as refusal
-use Rattle.fb_inputs.specs.declared.taking.ShotsEnd.{ShotsEnd}
-use Rattle.fb_inputs.specs.declared.taking.ShotsEnd.TheVariants as end
+use Rattle.fb_exits.specs.declared.ending.Cause.{Cause}
+use Rattle.fb_exits.specs.declared.ending.Cause.TheVariants.{Refused, ReadFault, WriteFault}
+use Rattle.fb_exits.specs.declared.ending.Refusal.TheVariants as refusal
+use Rattle.fb_files.specs.declared.taking.ShotsEnd.{ShotsEnd}
+use Rattle.fb_files.specs.declared.taking.ShotsEnd.TheVariants as end
 
 -- The shots that the input gives have been taken, and the lines of those that have a row were written.
 pub record JudgesAll (Input : List ShotValue → Type 0) (g : DecodingGraph) (rows : List Row) (old new : Option (List ℕ)) (j : Judged) : Type 0 where

@@ -1,13 +1,13 @@
 -- What each end of the command `plan` says of what was written and read.
 use Rattle.std.specs.Prelude.{ℕ, ◌≡◌, ◌⊎◌, List, [], Option}
-use Rattle.fb_endings.specs.Ends.{EndsAtFile, IsGraphRefusal}
-use Rattle.fb_endings.specs.declared.ending.Cause.{Cause}
-use Rattle.fb_endings.specs.declared.ending.Cause.TheVariants.{Done, Odd, Bad, Refused, ReadFault, WriteFault, NoMemory, Usage}
-use Rattle.fb_endings.specs.declared.ending.Refusal.{Refusal}
-use Rattle.fb_endings.specs.declared.ending.Refusal.TheVariants as refusal
+use Rattle.fb_exits.specs.Ends.{EndsAtFile, IsGraphRefusal}
+use Rattle.fb_exits.specs.declared.ending.Cause.{Cause}
+use Rattle.fb_exits.specs.declared.ending.Cause.TheVariants.{Done, Odd, Bad, Refused, ReadFault, WriteFault, NoMemory, Usage}
+use Rattle.fb_exits.specs.declared.ending.Refusal.{Refusal}
+use Rattle.fb_exits.specs.declared.ending.Refusal.TheVariants as refusal
 use Rattle.fb_graph.specs.Limits.{DecodingGraph}
-use Rattle.fb_inputs.specs.Judging.{Asks, IsGraphText, IsPlanText}
-use Rattle.fb_inputs.specs.Moments.{Moment, ReadsFile}
+use Rattle.fb_files.specs.Judging.{Asks, IsGraphText, IsPlanText}
+use Rattle.fb_files.specs.Moments.{Moment, ReadsFile}
 use Rattle.fb_layers.specs.PlanByLayers.{AreTooFew, IsPlanByLayers}
 use Rattle.fb_plan.specs.Plans.{PlanTree}
 use Rattle.fb_plan_out.specs.PlanWriting.{text_of_plan}

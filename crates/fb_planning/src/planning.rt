@@ -1,8 +1,8 @@
 //! The command `plan`: writes the plan of a graph by its layers.
 
 ghost use Rattle.std.specs.Prelude.{◌≡◌, ◌≢◌, ◌≤◌, string_bytes, IfOk, IfErr};
-ghost use Rattle.fb_endings.specs.Ends.{CountsReadFault};
-ghost use Rattle.fb_inputs.specs.Moments.{moment};
+ghost use Rattle.fb_exits.specs.Ends.{CountsReadFault};
+ghost use Rattle.fb_files.specs.Moments.{moment};
 ghost use Rattle.fb_layers.specs.PlanByLayers.{IsFault};
 ghost use Rattle.fb_plan.specs.Plans.{most_units};
 ghost use Rattle.fb_planning.specs.PlanEndings.{IsTextByLayers, PlanEnds, WritesPlan};
@@ -11,7 +11,7 @@ ghost use Rattle.fb_request.specs.PlainRequests.{plain_planning};
 ghost use Rattle.fb_request.specs.Ranges.{IsWithin};
 ghost use Rattle.fb_request.specs.Ranges as ranges;
 
-use fb_endings::{Cause, Refusal, graph_or_cause};
+use fb_exits::{Cause, Refusal, graph_or_cause};
 use fb_graph::Graph;
 use fb_layers::ByLayers;
 use fb_plan::{Plan, PlanFault};

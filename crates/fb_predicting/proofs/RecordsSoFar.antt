@@ -5,7 +5,7 @@ use Rattle.std.specs.List.{list_any}
 use Rattle.std.proofs.lemmas.Bool.{cases_Bool}
 use Rattle.std.proofs.lemmas.Grind.{flat_map-append}
 use Rattle.std.proofs.lemmas.List.Sums.{sum_by-cons}
-use Rattle.fb_endings.specs.declared.ending.Cause.TheVariants.{Done, Odd}
+use Rattle.fb_exits.specs.declared.ending.Cause.TheVariants.{Done, Odd}
 use Rattle.fb_graph.specs.declared.parts.Row.{Row}
 use Rattle.fb_graph.specs.declared.parts.Row.TheVariants as row
 use Rattle.fb_predict.specs.Codings.{coded}

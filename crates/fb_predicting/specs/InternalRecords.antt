@@ -1,7 +1,7 @@
 -- The records of a report's rows, put while its lines are read.
 use Rattle.std.specs.Prelude.{pos, ℕ, ◌≡◌, List, [], count_by}
 use Rattle.fb_graph.specs.declared.parts.Row.TheVariants as row
-use Rattle.fb_inputs.specs.Judging.{Holds, IsReportText, Named}
+use Rattle.fb_files.specs.Judging.{Holds, IsReportText, Named}
 use Rattle.fb_predict.specs.Codings.{coded}
 use Rattle.fb_predict.specs.Observing.{observed_bits}
 use Rattle.fb_predicting.specs.Predictions.{predictions}

@@ -1,12 +1,12 @@
 -- What each end of the command `predict` says of what was written and read.
 use Rattle.std.specs.Prelude.{ℕ, ◌≡◌, ◌⊎◌, List, [], Option, length}
-use Rattle.fb_endings.specs.Ends.{EndsAtFile, IsGraphRefusal, IsObservablesRefusal, IsReportRefusal}
-use Rattle.fb_endings.specs.declared.ending.Cause.{Cause}
-use Rattle.fb_endings.specs.declared.ending.Cause.TheVariants.{Done, Odd, Bad, Refused, ReadFault, WriteFault, NoMemory, Usage}
+use Rattle.fb_exits.specs.Ends.{EndsAtFile, IsGraphRefusal, IsObservablesRefusal, IsReportRefusal}
+use Rattle.fb_exits.specs.declared.ending.Cause.{Cause}
+use Rattle.fb_exits.specs.declared.ending.Cause.TheVariants.{Done, Odd, Bad, Refused, ReadFault, WriteFault, NoMemory, Usage}
 use Rattle.fb_graph.specs.Limits.{DecodingGraph}
 use Rattle.fb_graph.specs.declared.parts.Row.{Row}
-use Rattle.fb_inputs.specs.Judging.{AreObservables, Asks, IsGraphText, IsReportText}
-use Rattle.fb_inputs.specs.Moments.{Moment, ReadsFile}
+use Rattle.fb_files.specs.Judging.{AreObservables, Asks, IsGraphText, IsReportText}
+use Rattle.fb_files.specs.Moments.{Moment, ReadsFile}
 use Rattle.fb_ports.specs.Causes.{Appends, AppendsPrefix}
 use Rattle.fb_predicting.specs.Predictions.{cause_of_rows, predictions}
 use Rattle.fb_request.specs.Requests.{Predicting}

@@ -1,17 +1,17 @@
 //! The command `predict`: writes the observables that the rows of a report flip.
 
 ghost use Rattle.std.specs.Prelude.{◌≡◌, ◌≢◌, ◌<◌, [], ◌∷◌, Err, IfErr, IfOk, IsErrOf};
-ghost use Rattle.fb_endings.specs.Ends.{CountsReadFault};
-ghost use Rattle.fb_inputs.specs.Judging.{Asks, AsksPrefix, Holds, IfRefused, IsNoReport};
-ghost use Rattle.fb_inputs.specs.Moments.{moment};
+ghost use Rattle.fb_exits.specs.Ends.{CountsReadFault};
+ghost use Rattle.fb_files.specs.Judging.{Asks, AsksPrefix, Holds, IfRefused, IsNoReport};
+ghost use Rattle.fb_files.specs.Moments.{moment};
 ghost use Rattle.fb_ports.specs.Causes.{CountsFault, HasRoom, IsEmptyIfKnown};
 ghost use Rattle.fb_predicting.specs.InternalRecords.{AreRecordsOfFile};
 ghost use Rattle.fb_predicting.specs.PredictEndings.{ObservablesEnds, PredictEnds, ReportEnds};
 ghost use Rattle.fb_request.specs.PlainRequests.{plain_predicting};
 
 use crate::records::Records;
-use fb_endings::{Cause, cause_of_observables, cause_of_report, graph_or_cause};
-use fb_inputs::{FileFault, read_named, read_observables_file};
+use fb_exits::{Cause, cause_of_observables, cause_of_report, graph_or_cause};
+use fb_files::{FileFault, read_named, read_observables_file};
 use fb_ports::{Files, Sink};
 use fb_predict::Observables;
 use fb_request::{Coding, Predicting};

@@ -1,7 +1,7 @@
 //! The records of a report's rows. They wait in memory until the whole report is judged.
 
 ghost use Rattle.std.specs.Prelude.{ℕ, ◌≡◌, ◌≢◌, List, ◌++◌, IfErr, IfOk, OnOk};
-ghost use Rattle.fb_inputs.specs.Judging.{IsNoReport};
+ghost use Rattle.fb_files.specs.Judging.{IsNoReport};
 ghost use Rattle.fb_ports.specs.Causes.{CountsFault};
 ghost use Rattle.fb_predicting.specs.InternalRecords.{AreRecords, AreRecordsOfText, record_at};
 ghost use Rattle.fb_predicting.specs.PredictEndings.{WritesPredictions};
@@ -9,7 +9,7 @@ ghost use Rattle.fb_request.specs.declared.coding.Coding.{Coding};
 ghost use Rattle.fb_verify.specs.declared.reports.Report.{Report};
 ghost use Rattle.fb_verify.specs.declared.report_faults.ReportFault.TheVariants.{NoMemory};
 
-use fb_endings::Cause;
+use fb_exits::Cause;
 use fb_graph::{CutList, Row};
 use fb_ports::{Outbox, Sink};
 use fb_predict::{Observables, write_bits};

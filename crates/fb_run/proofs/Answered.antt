@@ -4,20 +4,20 @@ use Rattle.std.proofs.KnownBytes.{Appends-nil}
 use Rattle.fb_graph.specs.Limits.{DecodingGraph}
 use Rattle.fb_plan.specs.Plans.{PlanTree, single_of}
 use Rattle.fb_run.specs.Endings.{EndsByPlan, EndsOn}
-use Rattle.fb_inputs.proofs.Inputs.{asks_none, asks_same}
-use Rattle.fb_inputs.specs.Moments.{Moment}
-use Rattle.fb_endings.specs.Ends.{IsReadToItsEnd}
-use Rattle.fb_inputs.specs.Judging.{Named}
+use Rattle.fb_files.proofs.Inputs.{asks_none, asks_same}
+use Rattle.fb_files.specs.Moments.{Moment}
+use Rattle.fb_exits.specs.Ends.{IsReadToItsEnd}
+use Rattle.fb_files.specs.Judging.{Named}
 use Rattle.fb_run.specs.RunEndings.{EndsRight, RequestEnds, HasReadOut, ReadsOut}
 use Rattle.fb_run.specs.InternalCauses.{cause_of_words}
-use Rattle.fb_words.specs.Faults.{IsFaultOf, usage_of}
+use Rattle.fb_command_line.specs.Faults.{IsFaultOf, usage_of}
 use Rattle.fb_request.specs.Requests.{Decoding, Request, check, decode, plan, predict, sample}
-use Rattle.fb_endings.specs.declared.ending.Cause.{Cause}
-use Rattle.fb_endings.specs.declared.ending.Cause.TheVariants.{Bad, Done, NoMemory, Odd, ReadFault, Refused, Usage, WriteFault}
+use Rattle.fb_exits.specs.declared.ending.Cause.{Cause}
+use Rattle.fb_exits.specs.declared.ending.Cause.TheVariants.{Bad, Done, NoMemory, Odd, ReadFault, Refused, Usage, WriteFault}
 use Rattle.fb_request.specs.declared.usage.UsageKind.{UsageKind}
 use Rattle.fb_request.specs.declared.usage.UsageKind.TheVariants as usage
-use Rattle.fb_words.specs.declared.words.WordsFault.{WordsFault}
-use Rattle.fb_words.specs.declared.words.WordsFault.TheVariants as fault
+use Rattle.fb_command_line.specs.declared.words.WordsFault.{WordsFault}
+use Rattle.fb_command_line.specs.declared.words.WordsFault.TheVariants as fault
 
 -- what was done of a request that was read
 pub ends_read : (read : Result Request UsageKind) (request : Request) (before after : Moment) (cause : Cause) → read ≡ Ok request

@@ -6,12 +6,12 @@ use Rattle.std.proofs.lemmas.Slice.Zip.{AllZip-long}
 use Rattle.std.specs.List.{All}
 use Rattle.fb_crew.specs.Windows.{IsShotRow}
 use Rattle.fb_graph.specs.Limits.{DecodingGraph, ShotValue}
-use Rattle.fb_inputs.proofs.Gathered.{ended_read_out, first_of_none, gathered_so, given_few, given_first, gives_both, gives_none}
-use Rattle.fb_inputs.specs.Judging.{most_shots}
-use Rattle.fb_inputs.specs.InternalGathers.{EndsFrom, FirstFrom, GathersFrom}
-use Rattle.fb_inputs.specs.Taking.{EndsSo, GivesShots}
-use Rattle.fb_inputs.specs.declared.taking.ShotsEnd.{ShotsEnd}
-use Rattle.fb_inputs.specs.declared.taking.ShotsEnd.TheVariants as end
+use Rattle.fb_files.proofs.Gathered.{ended_read_out, first_of_none, gathered_so, given_few, given_first, gives_both, gives_none}
+use Rattle.fb_files.specs.Judging.{most_shots}
+use Rattle.fb_files.specs.InternalGathers.{EndsFrom, FirstFrom, GathersFrom}
+use Rattle.fb_files.specs.Taking.{EndsSo, GivesShots}
+use Rattle.fb_files.specs.declared.taking.ShotsEnd.{ShotsEnd}
+use Rattle.fb_files.specs.declared.taking.ShotsEnd.TheVariants as end
 use Rattle.fb_plan.specs.Plans.{PlanTree}
 use Rattle.fb_ports.proofs.Onward.{prefix_second}
 use Rattle.fb_ports.specs.Causes.{Appends, AppendsPrefix, Rose}

@@ -7,25 +7,25 @@ use Rattle.fb_ports.specs.Causes.{Appends, AppendsPrefix, CountsFault}
 use Rattle.fb_ports.proofs.Onward.{prefix_second}
 use Rattle.fb_report.specs.Texts.{head_text}
 use Rattle.fb_shots.specs.Shots.{Ending, at_end}
-use Rattle.fb_endings.specs.Ends.{CountsReadFault, IsReadToItsEnd, MayFollowReadFault}
-use Rattle.fb_endings.specs.TextEnds.{EndAfter, TextEnds, WritesPart, WritesWhole}
-use Rattle.fb_endings.proofs.InText.{appends_after, end_after}
-use Rattle.fb_inputs.specs.Moments.{Moment}
-use Rattle.fb_inputs.proofs.Gathered.{gathers_opened, holds_opened}
-use Rattle.fb_inputs.proofs.Lists.{holds_more}
-use Rattle.fb_inputs.specs.Judging.{HasFirstShots, HasShots}
-use Rattle.fb_inputs.specs.InternalGathers.{EndsFrom, FirstFrom, Gathers, GathersFrom, IsOpened}
+use Rattle.fb_exits.specs.Ends.{CountsReadFault, IsReadToItsEnd, MayFollowReadFault}
+use Rattle.fb_exits.specs.TextEnds.{EndAfter, TextEnds, WritesPart, WritesWhole}
+use Rattle.fb_exits.proofs.InText.{appends_after, end_after}
+use Rattle.fb_files.specs.Moments.{Moment}
+use Rattle.fb_files.proofs.Gathered.{gathers_opened, holds_opened}
+use Rattle.fb_files.proofs.Lists.{holds_more}
+use Rattle.fb_files.specs.Judging.{HasFirstShots, HasShots}
+use Rattle.fb_files.specs.InternalGathers.{EndsFrom, FirstFrom, Gathers, GathersFrom, IsOpened}
 use Rattle.fb_run.proofs.Batched.{counted_rows}
 use Rattle.fb_run.specs.Decoding.{HaveWholeWindows, all_rows, batches_text, cause_of, last_line, last_line_of}
 use Rattle.fb_run.specs.Endings.{decode_account, decode_source}
 use Rattle.fb_run.specs.Rows.{Counts}
 use Rattle.fb_run.specs.InternalWrites.{EndsReport, WritesBatches, WritesFirstBatches, counts_in}
 use Rattle.fb_request.specs.Requests.{Decoding}
-use Rattle.fb_endings.specs.declared.ending.Cause.{Cause}
-use Rattle.fb_endings.specs.declared.ending.Cause.TheVariants.{Done, Odd, ReadFault}
+use Rattle.fb_exits.specs.declared.ending.Cause.{Cause}
+use Rattle.fb_exits.specs.declared.ending.Cause.TheVariants.{Done, Odd, ReadFault}
 use Rattle.fb_run.specs.declared.batches.Tally.{Tally}
-use Rattle.fb_inputs.specs.declared.taking.ShotsEnd.{ShotsEnd}
-use Rattle.fb_inputs.specs.declared.taking.ShotsEnd.TheVariants as end
+use Rattle.fb_files.specs.declared.taking.ShotsEnd.{ShotsEnd}
+use Rattle.fb_files.specs.declared.taking.ShotsEnd.TheVariants as end
 
 -- a report ends as one that was read to its end only if its shots were
 pub report_to_end : (t : PlanTree) (ended : ShotsEnd) (rows : ℕ) (counts : Counts) (old new : Option (List ℕ)) (cause : Cause)

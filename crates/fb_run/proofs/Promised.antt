@@ -4,18 +4,18 @@ use Rattle.std.proofs.lemmas.List.{take-append-drop}
 use Rattle.std.specs.List.{All, AllZip, flat_map}
 use Rattle.std.proofs.lemmas.List.Elements.{All-nil, All-cons, All-head, All-tail}
 use Rattle.fb_crew.specs.Windows.{AreRows, IsHistoryOf, IsShotRow}
-use Rattle.fb_endings.specs.Ends.{EndsAtFile, EndsInText, IsGraphRefusal, IsPlanRefusal, IsReadToItsEnd}
-use Rattle.fb_endings.specs.TextEnds.{Account, Source, TextEnds, WritesWhole, whole_text}
-use Rattle.fb_endings.specs.declared.ending.Cause.{Cause}
-use Rattle.fb_endings.specs.declared.ending.Cause.TheVariants.{Done, Odd, Bad, Refused, ReadFault, WriteFault, NoMemory, Usage}
-use Rattle.fb_endings.specs.declared.ending.Refusal.{Refusal}
+use Rattle.fb_exits.specs.Ends.{EndsAtFile, EndsInText, IsGraphRefusal, IsPlanRefusal, IsReadToItsEnd}
+use Rattle.fb_exits.specs.TextEnds.{Account, Source, TextEnds, WritesWhole, whole_text}
+use Rattle.fb_exits.specs.declared.ending.Cause.{Cause}
+use Rattle.fb_exits.specs.declared.ending.Cause.TheVariants.{Done, Odd, Bad, Refused, ReadFault, WriteFault, NoMemory, Usage}
+use Rattle.fb_exits.specs.declared.ending.Refusal.{Refusal}
 use Rattle.fb_graph.specs.Answers.{BestWeighsLeast}
 use Rattle.fb_graph.specs.Laws.{NoCorrection}
 use Rattle.fb_graph.specs.Limits.{DecodingGraph, IsGraph, IsShot, ShotValue}
 use Rattle.fb_graph.specs.declared.parts.Row.{Row}
 use Rattle.fb_graph.specs.declared.parts.Row.TheVariants as row
-use Rattle.fb_inputs.specs.Judging.{HasShots, Holds, IsGraphText, IsPlanText, Named}
-use Rattle.fb_inputs.specs.Moments.{Moment}
+use Rattle.fb_files.specs.Judging.{HasShots, Holds, IsGraphText, IsPlanText, Named}
+use Rattle.fb_files.specs.Moments.{Moment}
 use Rattle.fb_ports.specs.Causes.{Appends}
 use Rattle.fb_plan.specs.Plans.{PlanTree, single_of}
 use Rattle.fb_report.specs.Texts.{head_text}

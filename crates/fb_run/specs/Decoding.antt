@@ -11,8 +11,8 @@ use Rattle.fb_plan.specs.Plans.{PlanTree}
 use Rattle.fb_report.specs.Texts.{rows_text, trace_line, done_text}
 use Rattle.fb_run.specs.Rows.{Counts, counts_of}
 use Rattle.fb_request.specs.Requests.{Decoding}
-use Rattle.fb_endings.specs.declared.ending.Cause.{Cause}
-use Rattle.fb_endings.specs.declared.ending.Cause.TheVariants.{Done, Odd}
+use Rattle.fb_exits.specs.declared.ending.Cause.{Cause}
+use Rattle.fb_exits.specs.declared.ending.Cause.TheVariants.{Done, Odd}
 
 -- The rows of shots that were solved side by side, and the history of how they were made: an entry's slot is the place of
 -- its shot among them.

@@ -2,15 +2,15 @@
 use Rattle.std.specs.Prelude.{ℕ, ◌⊎◌, List, [], ◌∷◌, Option, Some, None}
 use Rattle.fb_graph.specs.Limits.{DecodingGraph}
 use Rattle.fb_plan.specs.Plans.{PlanTree, single_of}
-use Rattle.fb_endings.specs.Ends.{EndsAtFile, EndsInText, IsGraphRefusal, IsPlanRefusal}
-use Rattle.fb_endings.specs.TextEnds.{Account, Source, TextEnds}
+use Rattle.fb_exits.specs.Ends.{EndsAtFile, EndsInText, IsGraphRefusal, IsPlanRefusal}
+use Rattle.fb_exits.specs.TextEnds.{Account, Source, TextEnds}
 use Rattle.fb_run.specs.Decoding.{AreBatches, Batch, HaveWholeWindows, all_rows, batches_text, cause_of, last_line_of}
 use Rattle.fb_report.specs.Texts.{head_text}
-use Rattle.fb_inputs.specs.Judging.{Asks, IsGraphText, IsPlanText}
-use Rattle.fb_inputs.specs.Moments.{Moment, ReadsFile}
+use Rattle.fb_files.specs.Judging.{Asks, IsGraphText, IsPlanText}
+use Rattle.fb_files.specs.Moments.{Moment, ReadsFile}
 use Rattle.fb_run.specs.Rows.{counts_of}
 use Rattle.fb_request.specs.Requests.{Decoding}
-use Rattle.fb_endings.specs.declared.ending.Cause.{Cause}
+use Rattle.fb_exits.specs.declared.ending.Cause.{Cause}
 
 -- a decode writes a right row for each shot, in batches
 abbrev pub decode_account : Decoding → DecodingGraph → PlanTree → Account Batch

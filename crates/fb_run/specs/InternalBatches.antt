@@ -3,8 +3,8 @@ use Rattle.std.specs.Prelude.{ℕ, ◌≡◌, ◌+◌, List, Option}
 use Rattle.fb_crew.specs.declared.window.Window.{Window}
 use Rattle.fb_graph.specs.declared.parts.Row.{Row}
 use Rattle.fb_graph.specs.Limits.{ShotValue}
-use Rattle.fb_inputs.specs.Taking.{TakesWindow}
-use Rattle.fb_inputs.specs.declared.taking.ShotsEnd.{ShotsEnd}
+use Rattle.fb_files.specs.Taking.{TakesWindow}
+use Rattle.fb_files.specs.declared.taking.ShotsEnd.{ShotsEnd}
 use Rattle.fb_plan.specs.Plans.{PlanTree}
 use Rattle.fb_run.specs.Decoding.{AnswersBatch, Batch}
 use Rattle.fb_run.specs.Rows.{counts_of}

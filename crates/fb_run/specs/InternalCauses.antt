@@ -1,13 +1,13 @@
 -- The causes of private functions' faults.
 use Rattle.std.specs.Prelude.{ℕ, List, string_bytes, ⊤}
-use Rattle.fb_endings.specs.declared.ending.Cause.{Cause}
-use Rattle.fb_endings.specs.declared.ending.Cause.TheVariants.{NoMemory, Refused, Usage}
-use Rattle.fb_endings.specs.declared.ending.Refusal.TheVariants as refusal
+use Rattle.fb_exits.specs.declared.ending.Cause.{Cause}
+use Rattle.fb_exits.specs.declared.ending.Cause.TheVariants.{NoMemory, Refused, Usage}
+use Rattle.fb_exits.specs.declared.ending.Refusal.TheVariants as refusal
 use Rattle.fb_gen.specs.declared.faults.GenFault.{GenFault}
 use Rattle.fb_gen.specs.declared.faults.GenFault.TheVariants as gen
 use Rattle.fb_request.specs.declared.usage.UsageKind.TheVariants as usage
-use Rattle.fb_words.specs.declared.words.WordsFault.{WordsFault}
-use Rattle.fb_words.specs.declared.words.WordsFault.TheVariants as fault
+use Rattle.fb_command_line.specs.declared.words.WordsFault.{WordsFault}
+use Rattle.fb_command_line.specs.declared.words.WordsFault.TheVariants as fault
 
 -- how a sample ends whose lattice or plan can't be made
 abbrev pub cause_of_sample : GenFault → Cause

@@ -8,12 +8,12 @@ use Rattle.fb_ports.specs.Causes.{Appends, AppendsPrefix}
 use Rattle.fb_run.specs.Decoding.{AreBatches, Batch, HaveWholeWindows, all_rows, batches_text, cause_of, last_line}
 use Rattle.fb_run.specs.Rows.{Counts, counts_of}
 use Rattle.fb_request.specs.Requests.{Decoding}
-use Rattle.fb_endings.specs.declared.ending.Cause.{Cause}
-use Rattle.fb_endings.specs.declared.ending.Cause.TheVariants.{Refused, ReadFault, WriteFault}
-use Rattle.fb_endings.specs.declared.ending.Refusal.TheVariants as refusal
+use Rattle.fb_exits.specs.declared.ending.Cause.{Cause}
+use Rattle.fb_exits.specs.declared.ending.Cause.TheVariants.{Refused, ReadFault, WriteFault}
+use Rattle.fb_exits.specs.declared.ending.Refusal.TheVariants as refusal
 use Rattle.fb_run.specs.declared.batches.Tally.{Tally}
-use Rattle.fb_inputs.specs.declared.taking.ShotsEnd.{ShotsEnd}
-use Rattle.fb_inputs.specs.declared.taking.ShotsEnd.TheVariants as end
+use Rattle.fb_files.specs.declared.taking.ShotsEnd.{ShotsEnd}
+use Rattle.fb_files.specs.declared.taking.ShotsEnd.TheVariants as end
 
 abbrev pub counts_in : Tally → Counts
 counts_in t = record { best = t.best; odd = t.odd }

@@ -3,16 +3,16 @@
 use Rattle.std.specs.Prelude.{ℕ, ℤ, ◌≡◌, ◌≤ℤ◌, true, List, ◌++◌, Option, Some, None}
 use Rattle.std.specs.List.{All, AllZip}
 use Rattle.fb_crew.specs.Windows.{IsHistoryOf}
-use Rattle.fb_endings.specs.Ends.{IsReadToItsEnd}
-use Rattle.fb_endings.specs.declared.ending.Cause.{Cause}
+use Rattle.fb_exits.specs.Ends.{IsReadToItsEnd}
+use Rattle.fb_exits.specs.declared.ending.Cause.{Cause}
 use Rattle.fb_graph.specs.Limits.{DecodingGraph, ShotValue}
 use Rattle.fb_graph.specs.Problem.{Flips, IsEdgeSet}
 use Rattle.fb_graph.specs.ShotGraphs.{shot_problem}
 use Rattle.fb_graph.specs.Signs.{signed_weight_of}
 use Rattle.fb_graph.specs.declared.parts.Row.{Row}
 use Rattle.fb_graph.specs.declared.parts.Row.TheVariants.{Best, Odd}
-use Rattle.fb_inputs.specs.Judging.{HasShots, Holds, IsGraphText, IsPlanText, Named}
-use Rattle.fb_inputs.specs.Moments.{Moment}
+use Rattle.fb_files.specs.Judging.{HasShots, Holds, IsGraphText, IsPlanText, Named}
+use Rattle.fb_files.specs.Moments.{Moment}
 use Rattle.fb_plan.specs.Plans.{PlanTree, single_of}
 use Rattle.fb_report.specs.Texts.{head_text}
 use Rattle.fb_request.specs.Requests.{Decoding, decode}

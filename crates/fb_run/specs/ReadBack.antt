@@ -1,7 +1,7 @@
 -- What the report of a decode gives to its reader.
 use Rattle.std.specs.Prelude.{ℕ, ◌≡◌, ◌+◌, ◌*◌, Bool, true, false, List, [], ◌∷◌, ◌++◌, length, map, Ok}
 use Rattle.fb_book.specs.declared.entries.Entry.{Entry}
-use Rattle.fb_endings.specs.TextEnds.{whole_text}
+use Rattle.fb_exits.specs.TextEnds.{whole_text}
 use Rattle.fb_graph.specs.Limits.{DecodingGraph, ShotValue}
 use Rattle.fb_graph.specs.declared.parts.Row.{Row}
 use Rattle.fb_plan.specs.Plans.{PlanTree}

@@ -2,16 +2,16 @@
 use Rattle.std.specs.Prelude.{ℕ, ◌≡◌, ◌⊎◌, List, [], Option, Result, Ok, Err, ⊤}
 use Rattle.fb_ports.specs.Causes.{Appends}
 use Rattle.fb_check.specs.CheckEndings.{CheckEnds}
-use Rattle.fb_endings.specs.Ends.{IsReadToItsEnd}
+use Rattle.fb_exits.specs.Ends.{IsReadToItsEnd}
 use Rattle.fb_planning.specs.PlanEndings.{PlanEnds}
 use Rattle.fb_predicting.specs.PredictEndings.{PredictEnds}
 use Rattle.fb_run.specs.Endings.{DecodeEnds}
 use Rattle.fb_run.specs.SampleEndings.{SampleEnds}
-use Rattle.fb_inputs.specs.Judging.{Asks, IsReadOutIfNamed, Named}
-use Rattle.fb_inputs.specs.Moments.{Moment}
+use Rattle.fb_files.specs.Judging.{Asks, IsReadOutIfNamed, Named}
+use Rattle.fb_files.specs.Moments.{Moment}
 use Rattle.fb_request.specs.Requests.{Request, check, decode, plan, predict, sample}
-use Rattle.fb_endings.specs.declared.ending.Cause.{Cause}
-use Rattle.fb_endings.specs.declared.ending.Cause.TheVariants.{NoMemory, Usage}
+use Rattle.fb_exits.specs.declared.ending.Cause.{Cause}
+use Rattle.fb_exits.specs.declared.ending.Cause.TheVariants.{NoMemory, Usage}
 use Rattle.fb_request.specs.declared.usage.UsageKind.{UsageKind}
 
 -- the end of what the words ask for

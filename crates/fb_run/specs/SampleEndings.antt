@@ -1,9 +1,9 @@
 -- How a sample ends.
 use Rattle.std.specs.Prelude.{ℕ, ℤ, ◌≡◌, ◌⊎◌, List, [], Option, Ok, Err}
-use Rattle.fb_endings.specs.declared.ending.Cause.{Cause}
-use Rattle.fb_endings.specs.declared.ending.Cause.TheVariants.{Done, Odd, Bad, Refused, ReadFault, WriteFault, NoMemory, Usage}
-use Rattle.fb_endings.specs.declared.ending.Refusal.{Refusal}
-use Rattle.fb_endings.specs.declared.ending.Refusal.TheVariants as refusal
+use Rattle.fb_exits.specs.declared.ending.Cause.{Cause}
+use Rattle.fb_exits.specs.declared.ending.Cause.TheVariants.{Done, Odd, Bad, Refused, ReadFault, WriteFault, NoMemory, Usage}
+use Rattle.fb_exits.specs.declared.ending.Refusal.{Refusal}
+use Rattle.fb_exits.specs.declared.ending.Refusal.TheVariants as refusal
 use Rattle.fb_gen.specs.Lattice.{lattice_of}
 use Rattle.fb_gen.specs.TimePlan.{time_plan_of}
 use Rattle.fb_gen.specs.declared.faults.GenFault.{GenFault}

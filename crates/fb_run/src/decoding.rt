@@ -3,9 +3,9 @@
 ghost use Rattle.std.specs.Prelude.{◌≡◌, ◌+◌, ◌<◌, ◌^◌};
 ghost use Rattle.fb_plan.specs.Plans.{IsPlan};
 ghost use Rattle.fb_ports.specs.Causes.{HasRoom, IsEmptyIfKnown, CountsFault};
-ghost use Rattle.fb_endings.specs.Ends.{CountsReadFault, IsReadToItsEnd};
-ghost use Rattle.fb_inputs.specs.Judging.{IsReadOutIfNamed};
-ghost use Rattle.fb_inputs.specs.Moments.{moment};
+ghost use Rattle.fb_exits.specs.Ends.{CountsReadFault, IsReadToItsEnd};
+ghost use Rattle.fb_files.specs.Judging.{IsReadOutIfNamed};
+ghost use Rattle.fb_files.specs.Moments.{moment};
 ghost use Rattle.fb_run.specs.Endings.{DecodeEnds, EndsByPlan, EndsOn};
 ghost use Rattle.fb_run.specs.InternalWrites.{EndsReport, counts_in};
 ghost use Rattle.fb_request.specs.Ranges.{IsWithin, windows, workers};
@@ -13,9 +13,9 @@ ghost use Rattle.fb_request.specs.PlainRequests.{plain_decoding};
 
 use crate::batches::{Decoded, decode_file};
 use fb_crew::{Crew, Gate};
-use fb_endings::{Cause, Refusal, cause_of_plan, graph_or_cause};
+use fb_exits::{Cause, Refusal, cause_of_plan, graph_or_cause};
+use fb_files::{ShotsEnd, read_plan_file};
 use fb_graph::Graph;
-use fb_inputs::{ShotsEnd, read_plan_file};
 use fb_plan::Plan;
 use fb_ports::{Files, RowsFault, Sink};
 use fb_report::{write_done, write_head};

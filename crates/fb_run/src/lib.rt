@@ -11,7 +11,7 @@ mod sample_text;
 mod sampling;
 
 pub use fb_crew::{Gate, OpenGate};
-pub use fb_endings::{Cause, Ended, Refusal, say};
+pub use fb_exits::{Cause, Ended, Refusal, say};
 pub use fb_request::UsageKind;
 pub use laws::{limits_of_crews, reads_back};
 pub use running::run;

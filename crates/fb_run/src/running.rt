@@ -2,26 +2,26 @@
 
 ghost use Rattle.std.specs.Prelude.{◌≡◌, ◌≢◌, ◌<◌, ◌^◌, ◌-◌, map, string_bytes, true};
 ghost use Rattle.fb_ports.specs.Causes.{Appends, AppendsPrefix, IsEmptyIfKnown, Rose, CountsFault};
-ghost use Rattle.fb_endings.specs.Causes.{line_of, status_of};
-ghost use Rattle.fb_endings.specs.Ends.{CountsReadFault, MayFollowReadFault};
-ghost use Rattle.fb_inputs.specs.Moments.{moment};
+ghost use Rattle.fb_exits.specs.Causes.{line_of, status_of};
+ghost use Rattle.fb_exits.specs.Ends.{CountsReadFault, MayFollowReadFault};
+ghost use Rattle.fb_files.specs.Moments.{moment};
 ghost use Rattle.fb_run.specs.RunEndings.{EndsRight, HasReadOut, ReadsOut, RequestEnds};
 ghost use Rattle.fb_run.specs.InternalCauses.{IfParse, cause_of_words};
-ghost use Rattle.fb_words.specs.Taken.{is_taken};
+ghost use Rattle.fb_command_line.specs.Taken.{is_taken};
 ghost use Rattle.fb_request.specs.PlainRequests.{plain_request};
 ghost use Rattle.fb_request.specs.Requests.{IsInRanges};
-ghost use Rattle.fb_words.specs.Words.{request_of};
+ghost use Rattle.fb_command_line.specs.Words.{request_of};
 
 use crate::decoding::decode;
 use crate::sampling::sample;
 use fb_check::check;
+use fb_command_line::{WordsFault, read_words};
 use fb_crew::Gate;
-use fb_endings::{Cause, Ended, say};
+use fb_exits::{Cause, Ended, say};
 use fb_planning::plan;
 use fb_ports::{Files, Sink, put_all};
 use fb_predicting::predict;
 use fb_request::{Request, UsageKind};
-use fb_words::{WordsFault, read_words};
 use std::alloc::Global;
 use std::thread::Threads;
 

@@ -17,7 +17,7 @@ ghost use Rattle.fb_request.specs.Requests.{IsSampleInRanges};
 
 use crate::sample_text::{Sums, write_sample};
 use fb_crew::{Crew, Gate};
-use fb_endings::{Cause, Refusal};
+use fb_exits::{Cause, Refusal};
 use fb_gen::{Draws, GenFault, draw, lattice, time_plan};
 use fb_graph::{Graph, NoMemory, Row, Shot};
 use fb_plan::Plan;

@@ -1,10 +1,10 @@
 use Rattle.std.proofs.Common.{◌∙◌, ℕ, [], inl, inr, refl, sym, subst, append-nil}
 use Rattle.fb_request.specs.PlainRequests.{plain_checking}
 use Rattle.fb_check.specs.Checks.{check_head}
-use Rattle.fb_endings.specs.Ends.{CountsReadFault}
-use Rattle.fb_inputs.specs.Moments.{moment}
-use Rattle.fb_inputs.proofs.Inputs.{asks_kept, asks_one, asks_same}
-use Rattle.fb_inputs.proofs.Gathered.{is_opened, is_unopened, read_out_opened}
+use Rattle.fb_exits.specs.Ends.{CountsReadFault}
+use Rattle.fb_files.specs.Moments.{moment}
+use Rattle.fb_files.proofs.Inputs.{asks_kept, asks_one, asks_same}
+use Rattle.fb_files.proofs.Gathered.{is_opened, is_unopened, read_out_opened}
 use Rattle.fb_check.proofs.Checked.{check_counted, check_to_end, checks_first, checks_on, first_opened, judged_opened, never_memory}
 use Rattle.fb_check.proofs.checking.check_rows.Goals as goal
 

@@ -1,5 +1,5 @@
 use Rattle.std.proofs.Common.{◌≡◌, ℕ, inl, refl, rules}
-use Rattle.fb_endings.specs.declared.ending.Cause.TheVariants.{Done}
+use Rattle.fb_exits.specs.declared.ending.Cause.TheVariants.{Done}
 use Rattle.fb_check.specs.Checks.{check_cause}
 use Rattle.fb_check.proofs.checking.end_check.Goals as goal
 

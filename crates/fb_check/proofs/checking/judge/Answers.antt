@@ -1,6 +1,6 @@
-use Rattle.fb_inputs.specs.InternalGathers.{FirstFrom}
-use Rattle.fb_inputs.specs.InternalGathers.{GathersFrom}
-use Rattle.fb_inputs.proofs.Gathered.{gathered_first}
+use Rattle.fb_files.specs.InternalGathers.{FirstFrom}
+use Rattle.fb_files.specs.InternalGathers.{GathersFrom}
+use Rattle.fb_files.proofs.Gathered.{gathered_first}
 use Rattle.fb_check.proofs.Checked.{all_flushed, first_flushed}
 use Rattle.fb_check.proofs.checking.judge.Goals as goal
 

@@ -1,7 +1,7 @@
 use Rattle.std.proofs.Common.{◌≡◌, ◌+◌, ◌∙◌, ◌≤◌, ℕ, [], ◌∷◌, ◌++◌, Bool, true, false, cond, refl, sym, ap, subst, rules, arith}
 use Rattle.fb_shots.specs.Streams.{Stream}
-use Rattle.fb_inputs.specs.Taking.{GivesShots}
-use Rattle.fb_inputs.proofs.Gathered.{gathered_all, gathered_before, gathered_part, given_count, given_first, given_fits, gives_next, gives_none}
+use Rattle.fb_files.specs.Taking.{GivesShots}
+use Rattle.fb_files.proofs.Gathered.{gathered_all, gathered_before, gathered_part, given_count, given_first, given_fits, gives_next, gives_none}
 use Rattle.fb_check.proofs.Lines.{IsJudging, judging_begins, judging_moved, judging_next}
 use Rattle.fb_check.proofs.Checked.{judged_at_fault, judged_first, judged_into}
 use Rattle.fb_check.proofs.checking.judge_into.Goals as goal

@@ -1,6 +1,6 @@
 use Rattle.std.proofs.Common.{inl, inr, refl}
-use Rattle.fb_inputs.proofs.Inputs.{asks_same}
-use Rattle.fb_inputs.specs.Moments.{moment}
+use Rattle.fb_files.proofs.Inputs.{asks_same}
+use Rattle.fb_files.specs.Moments.{moment}
 use Rattle.fb_planning.proofs.planning.plan.Goals as goal
 
 pub returns-in-Ok-clause-ends : goal.returns-in-Ok-clause-ends

@@ -1,8 +1,8 @@
 use Rattle.std.proofs.Common.{inl, inr, refl, arith}
 use Rattle.std.proofs.KnownBytes.{Appends-nil}
-use Rattle.fb_inputs.specs.Moments.{moment}
-use Rattle.fb_endings.specs.declared.ending.Refusal.TheVariants as refusal
-use Rattle.fb_endings.proofs.AtFiles.{counted_at_file, ends_at_file, not_by_writing}
+use Rattle.fb_files.specs.Moments.{moment}
+use Rattle.fb_exits.specs.declared.ending.Refusal.TheVariants as refusal
+use Rattle.fb_exits.proofs.AtFiles.{counted_at_file, ends_at_file, not_by_writing}
 use Rattle.fb_predicting.proofs.predicting.predict_for_edges.Goals as goal
 
 pub returns-in-Ok-clause-ends : goal.returns-in-Ok-clause-ends

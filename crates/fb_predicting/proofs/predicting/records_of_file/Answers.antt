@@ -1,8 +1,8 @@
 use Rattle.std.proofs.Common.{◌<◌, length}
 use Rattle.std.proofs.lemmas.Result.{err_from_is_err_and}
-use Rattle.fb_inputs.proofs.Lists.{refused_as_too_long}
-use Rattle.fb_inputs.proofs.Reported.{too_long}
-use Rattle.fb_inputs.specs.Judging.{IsNoReport}
+use Rattle.fb_files.proofs.Lists.{refused_as_too_long}
+use Rattle.fb_files.proofs.Reported.{too_long}
+use Rattle.fb_files.specs.Judging.{IsNoReport}
 use Rattle.fb_predicting.proofs.predicting.records_of_file.Goals as goal
 use Rattle.fb_verify.specs.Reports.{most_bytes}
 

@@ -1,5 +1,5 @@
 use Rattle.std.proofs.Common.{inl, inr, refl}
-use Rattle.fb_inputs.specs.Moments.{moment}
+use Rattle.fb_files.specs.Moments.{moment}
 use Rattle.fb_run.proofs.decoding.decode.Goals as goal
 
 pub returns-in-Ok-clause-ends : goal.returns-in-Ok-clause-ends

@@ -3,12 +3,12 @@ use Rattle.std.proofs.KnownBytes.{Appends-nil}
 use Rattle.fb_graph.specs.Limits.{DecodingGraph}
 use Rattle.fb_plan.specs.Plans.{PlanTree, single_of}
 use Rattle.fb_run.specs.Endings.{EndsByPlan, EndsOn, EndsWithPlan}
-use Rattle.fb_endings.specs.Ends.{IsPlanRefusal, EndsAtFile}
-use Rattle.fb_inputs.specs.Moments.{Moment, moment}
+use Rattle.fb_exits.specs.Ends.{IsPlanRefusal, EndsAtFile}
+use Rattle.fb_files.specs.Moments.{Moment, moment}
 use Rattle.fb_request.specs.Requests.{Decoding}
-use Rattle.fb_endings.specs.declared.ending.Cause.{Cause}
-use Rattle.fb_endings.specs.declared.ending.Refusal.TheVariants as refusal
-use Rattle.fb_endings.proofs.AtFiles.{counted_at_file, ends_at_file, not_by_writing, not_to_the_end}
+use Rattle.fb_exits.specs.declared.ending.Cause.{Cause}
+use Rattle.fb_exits.specs.declared.ending.Refusal.TheVariants as refusal
+use Rattle.fb_exits.proofs.AtFiles.{counted_at_file, ends_at_file, not_by_writing, not_to_the_end}
 use Rattle.fb_run.proofs.decoding.decode_on.Goals as goal
 
 -- the end of a decode for which a plan is named

@@ -1,12 +1,12 @@
 use Rattle.std.proofs.Common.{ℕ, [], inl, inr, refl, sym, subst, append-nil}
 use Rattle.fb_report.specs.Texts.{head_text}
-use Rattle.fb_endings.specs.Ends.{CountsReadFault}
+use Rattle.fb_exits.specs.Ends.{CountsReadFault}
 use Rattle.fb_request.specs.PlainRequests.{plain_decoding}
-use Rattle.fb_inputs.specs.Moments.{moment}
-use Rattle.fb_inputs.proofs.Inputs.{asks_kept, asks_one, asks_same}
-use Rattle.fb_inputs.proofs.Gathered.{is_opened, is_unopened, read_out_opened}
+use Rattle.fb_files.specs.Moments.{moment}
+use Rattle.fb_files.proofs.Inputs.{asks_kept, asks_one, asks_same}
+use Rattle.fb_files.proofs.Gathered.{is_opened, is_unopened, read_out_opened}
 use Rattle.fb_run.proofs.Finishing.{ends_on, prefix_of_batches, report_counted, report_to_end}
-use Rattle.fb_inputs.specs.InternalGathers.{IsOpened}
+use Rattle.fb_files.specs.InternalGathers.{IsOpened}
 use Rattle.fb_run.proofs.decoding.decode_with.Goals as goal
 use Rattle.fb_run.proofs.decoding.decode_with.Goals.{In-Ok-open_file}
 

@@ -1,6 +1,6 @@
 use Rattle.std.proofs.Common.{map, string_bytes}
 use Rattle.fb_request.specs.PlainRequests.{plain_request}
-use Rattle.fb_words.specs.Words.{request_of}
+use Rattle.fb_command_line.specs.Words.{request_of}
 use Rattle.fb_request.specs.declared.usage.UsageKind.TheVariants as usage
 use Rattle.fb_run.proofs.Answered.{ends_read, ends_refused, request_not_usage, fault_not_parse, never_out, out_read}
 use Rattle.fb_run.proofs.running.run_words.Goals as goal
