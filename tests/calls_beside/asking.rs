@@ -46,6 +46,8 @@ pub struct Asker {
     alloc: Global,
     /// How often `next_obstacle` gave each kind of answer, in the order of `KINDS`.
     pub answers: [u64; 8],
+    /// How often time passed, and all observations agreed after it.
+    pub clock_steps: u64,
 }
 
 impl Asker {
@@ -53,12 +55,14 @@ impl Asker {
         Asker {
             alloc,
             answers: [0; 8],
+            clock_steps: 0,
         }
     }
 
-    /// How many answers were as expected.
+    /// How many answers were as expected, and after how many steps of the clock all observations agreed.
     pub fn passed(&self) -> u64 {
-        self.answers.iter().sum()
+        let answers: u64 = self.answers.iter().sum();
+        answers + self.clock_steps
     }
 
     /// Asks about trees of random roles, one after another with one watch, and ends at one of the obstacles. A tree that is
@@ -74,7 +78,12 @@ impl Asker {
             game.renew_watch(alloc, draws, &roles)?;
             if let Found::Free(length) = self.compare_answers(game, &roles)? {
                 if draws.happens(50) {
-                    step(alloc, game, &roles, draw_length(draws, length))?;
+                    let by = draw_length(draws, length);
+                    if draws.happens(50) {
+                        step(alloc, game, &roles, by)?;
+                    } else {
+                        self.let_time_pass(draws, game, &roles, by)?;
+                    }
                 }
             } else if draws.happens(50) {
                 return Ok(());
@@ -85,6 +94,26 @@ impl Asker {
                 game.draw_roles(alloc, draws)?
             };
         }
+        Ok(())
+    }
+
+    /// The tree steps by this length in two steps of the clock. All observations are compared while its nodes move.
+    fn let_time_pass(
+        &mut self,
+        draws: &mut Draws,
+        game: &mut Game<'_>,
+        roles: &DrawnRoles,
+        by: u64,
+    ) -> Result<(), Stopped> {
+        let first = draws.below(by + 1);
+        for length in [first, by - first] {
+            game.pass_time(self.alloc, roles, length)?;
+            game.compare(self.alloc)?;
+            self.clock_steps += 1;
+        }
+        game.rest(roles);
+        game.compare(self.alloc)?;
+        game.watched.lower(2 * by);
         Ok(())
     }
 

@@ -10,7 +10,7 @@ use crate::roles::DrawnRoles;
 use crate::stopped::Stopped;
 use crate::watching::Watched;
 use fb_graph::{Graph, Whole};
-use fb_regions::{NodeId, Regions, SpareRegions};
+use fb_regions::{NodeId, Regions, Role, SpareRegions};
 use std::alloc::{AllocError, Global};
 
 /// The two states, on which the same moves are made.
@@ -113,6 +113,34 @@ impl<'a> Game<'a> {
         }
         self.readings = Readings::of(alloc, &self.plain)?;
         Ok(())
+    }
+
+    /// Each plus node grows by this length and each minus node shrinks by it, all at once as the time passes. They move on
+    /// until `rest`.
+    pub fn pass_time(
+        &mut self,
+        alloc: Global,
+        roles: &DrawnRoles,
+        by: u64,
+    ) -> Result<(), AllocError> {
+        for name in &roles.plus {
+            self.regions.set_pace(*name, Role::Plus);
+            self.plain.grow(*name, by);
+        }
+        for name in &roles.minus {
+            self.regions.set_pace(*name, Role::Minus);
+            self.plain.shrink(*name, by);
+        }
+        self.regions.advance(by);
+        self.readings = Readings::of(alloc, &self.plain)?;
+        Ok(())
+    }
+
+    /// The nodes of these roles stop.
+    pub fn rest(&mut self, roles: &DrawnRoles) {
+        for name in roles.plus.iter().chain(roles.minus.iter()) {
+            self.regions.set_pace(*name, Role::Out);
+        }
     }
 
     /// Compares every observation of the two states.

@@ -43,6 +43,8 @@ fn print_counts(rt: &impl Print, player: &Player) -> io::Result<()> {
     println!(rt; "names used again: {named_again}")?;
     let (deep, deepest) = (player.deep, player.deepest);
     println!(rt; "nests of ten or more blossoms: {deep} times, the deepest of {deepest}")?;
+    let clock_steps = player.asker.clock_steps;
+    println!(rt; "steps of the clock: {clock_steps}")?;
     print_answers(rt, "next_obstacle", &player.asker.answers)
 }
 

@@ -17,11 +17,6 @@ pub record Node : Type 0 where
   pub below : List Cut
   pub top : Cut
 
--- a dual state over a scope, its nodes in the order in which they were made
-pub record Dual (S : Type 0) : Type 0 where
-  pub scope : S
-  pub nodes : List Node
-
 -- a node's own layers, from the first to the top
 abbrev pub layers_of : Node → List Cut
 layers_of n = n.below ++ n.top ∷ []

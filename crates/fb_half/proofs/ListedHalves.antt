@@ -27,6 +27,7 @@ use Rattle.fb_half.specs.Parts.{IsPart, PartValue, graph_in, problem_in}
 use Rattle.fb_half.specs.Seams.{AreListed, IsListed, far_end, names_under}
 use Rattle.fb_half.specs.Translations.{link_by}
 use Rattle.fb_half.specs.Values.{HasScope, IsScopeOf, part_of}
+use Rattle.fb_regions.specs.Paces.{IsAtRest}
 use Rattle.fb_half.proofs.AddedSingles.{Store}
 use Rattle.fb_half.proofs.BesideLinks.{link_left, link_right}
 use Rattle.fb_half.proofs.BesideMatchings.{far_left, far_right}
@@ -39,8 +40,8 @@ use Rattle.fb_links.proofs.MovedLinks.{Table}
 
 -- a part without matches
 pub scope_begun : (parts : Parts) → IsScopeOf parts.regions.scope (part_of parts) → parts.matching.matches ≡ []
-    → parts.defects.items ≡ shot_defects (part_of parts) → HasScope parts
-scope_begun parts is none own = record {
+    → parts.defects.items ≡ shot_defects (part_of parts) → IsAtRest parts.regions → HasScope parts
+scope_begun parts is none own rest = record {
   graph = is.graph;
   plan = is.plan;
   node = is.node;
@@ -48,6 +49,7 @@ scope_begun parts is none own = record {
       subst (AreListed (problem_in (part_of parts)).is_real parts.job.now.plan parts.seams parts.links) (sym none)
       (All-nil (IsListed (problem_in (part_of parts)).is_real parts.job.now.plan parts.seams parts.links));
   defects = own;
+  rest = rest;
 }
 
 alone_second : (o : Option ℕ) → is_alone o ≡ true → o ≡ None

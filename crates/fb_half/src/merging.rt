@@ -8,6 +8,7 @@ ghost use Rattle.fb_graph.specs.NestUnions.{AreParts};
 ghost use Rattle.fb_graph.specs.Parity.{is_in};
 ghost use Rattle.fb_graph.specs.RenamedNodes.{renamed_nodes};
 ghost use Rattle.fb_regions.specs.Merged.{AreNewNames};
+ghost use Rattle.fb_regions.specs.Paces.{IsAtRest};
 ghost use Rattle.fb_plan.specs.Plans.{node_count};
 ghost use Rattle.fb_plan.specs.Scopes.{scope_problem};
 ghost use Rattle.fb_links.specs.Merged.{AreMerged};
@@ -103,6 +104,8 @@ pub(crate) fn merged_parts<'a>(
     left: Parts<'a>,
     right: Parts<'a>,
 ) -> Result<MergedParts<'a>, NoMemory>
+    requires left_rest { IsAtRest left.regions }
+    requires right_rest { IsAtRest right.regions }
     requires leaves { AreLeavesApart left.blossoms right.blossoms }
     requires names { (store : List (Option blossoms.Node)) (links names : List (ℕ × ℕ)) → merged.IsMerged left.blossoms right.blossoms store links names → AreNewNames left.regions.nodes right.regions.nodes (name_by names) }
     requires parts { AreParts (scope_problem left.regions.scope) (scope_problem right.regions.scope) (scope_problem scope.now) }
@@ -110,7 +113,7 @@ pub(crate) fn merged_parts<'a>(
     requires right_vertices { right.regions.scope.graph.now.vertices ≡ scope.now.graph.now.vertices }
     ensures links { IfOk result (λ m. AreMerged left.entry.links right.entry.links m.link_names.items m.parts.links) }
     ensures blossoms { IfOk result (λ m. merged.IsMerged left.entry.blossoms right.entry.blossoms m.parts.blossoms m.link_names.items m.names.items) }
-    ensures regions { IfOk result (λ m. m.parts.regions ≡ record { scope = scope.now; nodes = left.entry.regions.nodes ++ renamed_nodes (name_by m.names.items) right.entry.regions.nodes }) }
+    ensures regions { IfOk result (λ m. m.parts.regions ≡ record left.entry.regions { scope = scope.now; nodes = left.entry.regions.nodes ++ renamed_nodes (name_by m.names.items) right.entry.regions.nodes }) }
     ensures matching { IfOk result (λ m. m.parts.matching ≡ left.entry.matching) }
     ensures others { IfOk result (λ m. m.others ≡ right.entry.matching) }
     ensures defects { IfOk result (λ m. m.parts.defects.items ≡ left.entry.defects.items) }
@@ -375,6 +378,7 @@ fn add_leaves(
     requires listed { (name : ℕ) → blossoms.node_at store.old name ≡ None → is_in (listed_names matching.old) name ≡ false }
     ensures singles_added { OnOk result (AddsSingles (drop (length matching.old.unmatched) matching.new.unmatched) vertices.now regions.old.nodes regions.new.nodes store.old store.new matching.old matching.new) }
     ensures scope { OnOk result (regions.new.scope ≡ regions.old.scope) }
+    ensures rest { OnOk result (IsAtRest regions.old → IsAtRest regions.new) }
 {
     for v in vertices {
         add_leaf(alloc, regions, store, matching, *v)?;
@@ -390,6 +394,7 @@ fn open_seam(alloc: Global, parts: &mut Parts<'_>) -> Result<(), NoMemory>
     requires defects { IsStrictlyIncreasing parts.old.defects.items }
     ensures opened { OnOk result (IsOpened (drop (length (parts.old.matching.unmatched ++ met_nodes (part_of parts.old))) parts.new.matching.unmatched) (part_of parts.old) (part_of parts.new)) }
     ensures scope { OnOk result (IsScopeOf parts.new.regions.scope (part_of parts.new)) }
+    ensures rest { OnOk result (IsAtRest parts.old.regions → IsAtRest parts.new.regions) }
     ensures listed { OnOk result (AreListed (problem_in (part_of parts.new)).is_real parts.new.job.now.plan parts.new.seams parts.new.links parts.new.matching.matches) }
     ensures defects { OnOk result (IsRisingUnion parts.old.defects.items (shot_seam parts.old.job.now parts.old.slot parts.old.node) parts.new.defects.items) }
 {
@@ -425,6 +430,7 @@ pub(crate) fn complete(alloc: Global, merged: &mut MergedParts<'_>) -> Result<()
     requires other_defects { IsStrictlyIncreasing merged.old.other_defects.items }
     ensures opened { OnOk result (IsOpened (drop (length ((joined_part merged.old).matching.unmatched ++ met_nodes (joined_part merged.old))) merged.new.parts.matching.unmatched) (joined_part merged.old) (part_of merged.new.parts)) }
     ensures scope { OnOk result (IsScopeOf merged.new.parts.regions.scope (part_of merged.new.parts)) }
+    ensures rest { OnOk result (IsAtRest merged.old.parts.regions → IsAtRest merged.new.parts.regions) }
     ensures listed { OnOk result (AreListed (problem_in (part_of merged.new.parts)).is_real merged.new.parts.job.now.plan merged.new.parts.seams merged.new.parts.links merged.new.parts.matching.matches) }
     ensures defects { OnOk result (IsRisingUnion (merged.old.parts.defects.items ++ merged.old.other_defects.items) (shot_seam merged.old.parts.job.now merged.old.parts.slot merged.old.parts.node) merged.new.parts.defects.items) }
 {

@@ -1,6 +1,7 @@
 ghost use Rattle.std.specs.Prelude.{◌≡◌, ◌<◌, [], length, IfOk};
 ghost use Rattle.fb_half.specs.InternalBeginnings.{empty_part};
 ghost use Rattle.fb_half.specs.Values.{IsScopeOf, part_of};
+ghost use Rattle.fb_regions.specs.Paces.{IsAtRest};
 
 use crate::both::both;
 use crate::matching::Matching;
@@ -111,6 +112,7 @@ pub(crate) fn empty_parts<'a>(
     requires slot { slot < length job.now.shots }
     ensures value { IfOk result (λ p. part_of p ≡ empty_part job.now slot node) }
     ensures scope { IfOk result (λ p. IsScopeOf p.regions.scope (part_of p)) }
+    ensures rest { IfOk result (λ p. IsAtRest p.regions) }
 {
     match spare {
         Some(spare) => parts_on(alloc, spare, job, slot, node),
@@ -128,6 +130,7 @@ fn new_parts<'a>(
     requires slot { slot < length job.now.shots }
     ensures value { IfOk result (λ p. part_of p ≡ empty_part job.now slot node) }
     ensures scope { IfOk result (λ p. IsScopeOf p.regions.scope (part_of p)) }
+    ensures rest { IfOk result (λ p. IsAtRest p.regions) }
 {
     let tables = EmptyTables::new(alloc)?;
     let (regions, tables) = both(Regions::new(alloc, &job.scope(slot, node)), tables)?;
@@ -155,6 +158,7 @@ fn parts_on<'a>(
     requires slot { slot < length job.now.shots }
     ensures value { IfOk result (λ p. part_of p ≡ empty_part job.now slot node) }
     ensures scope { IfOk result (λ p. IsScopeOf p.regions.scope (part_of p)) }
+    ensures rest { IfOk result (λ p. IsAtRest p.regions) }
 {
     Ok(Parts {
         regions: Regions::on(alloc, spare.regions, &job.scope(slot, node))?,

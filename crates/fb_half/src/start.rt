@@ -11,6 +11,7 @@ ghost use Rattle.fb_blossoms.specs.Nodes as blossoms;
 ghost use Rattle.fb_half.specs.InternalBeginnings.{IsStarted, LiesWithin, empty_part};
 ghost use Rattle.fb_half.specs.Matchings.{listed_names};
 ghost use Rattle.fb_half.specs.Values.{IsScopeOf, part_of};
+ghost use Rattle.fb_regions.specs.Paces.{IsAtRest};
 
 use crate::matching::Matching;
 use crate::parts::Parts;
@@ -98,6 +99,7 @@ pub(crate) fn add_leaf(
     ensures nodes { IfOk result (λ name. regions.new.nodes ≡ regions.old.nodes ++ leaf name v ∷ []) }
     ensures matching { IfOk result (λ name. matching.new ≡ record { matches = matching.old.matches; unmatched = matching.old.unmatched ++ name ∷ [] }) }
     ensures scope { IfOk result (λ name. regions.new.scope ≡ regions.old.scope) }
+    ensures rest { IfOk result (λ name. IsAtRest regions.old → IsAtRest regions.new) }
 {
     let name = store.leaf(alloc, v)?;
     regions.open_leaf(alloc, name, v)?;
@@ -113,6 +115,7 @@ pub(crate) fn start(alloc: Global, parts: &mut Parts<'_>, own: &[u32]) -> Result
     requires real { All (λ v. (problem_at parts.old.job.now.graph parts.old.job.now.plan parts.old.node no_shot).is_real v ≡ true) own.now }
     ensures started { OnOk result (IsStarted own.now parts.new.regions.nodes parts.new.blossoms parts.new.matching) }
     ensures scope { OnOk result (IsScopeOf parts.new.regions.scope (part_of parts.new)) }
+    ensures rest { OnOk result (IsAtRest parts.old.regions → IsAtRest parts.new.regions) }
     ensures links { OnOk result (parts.new.links ≡ []) }
     ensures job { OnOk result (parts.new.job.now ≡ parts.old.job.now) }
     ensures slot { OnOk result (parts.new.slot ≡ parts.old.slot) }

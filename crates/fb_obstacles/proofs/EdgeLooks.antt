@@ -18,7 +18,8 @@ use Rattle.fb_obstacles.specs.declared.obstacle.Obstacle.TheVariants as obstacle
 use Rattle.fb_obstacles.specs.declared.looking.Look.TheVariants.{Within, Blocked}
 use Rattle.fb_obstacles.specs.declared.ends.Cover.{Cover}
 use Rattle.fb_obstacles.specs.declared.ends.Cover.TheVariants.{Plus, Minus, Out, Bare, Virtual}
-use Rattle.fb_obstacles.specs.Obstacles.{BearsStep, IsTightFrom, Obstructs, grows, most_of, residue_of, roles_by, shrinks, slack_at, slack_by}
+use Rattle.fb_regions.specs.Paces.{grows, shrinks}
+use Rattle.fb_obstacles.specs.Obstacles.{BearsStep, IsTightFrom, Obstructs, most_of, residue_of, roles_by, slack_at, slack_by}
 use Rattle.fb_obstacles.specs.InnerEdges.{is_inner, is_one_node}
 use Rattle.fb_obstacles.specs.InternalLooks.{cover_in_role, cover_by, cover_at, far_end, bound_by, bounded_look, look_if, edge_look, Limits}
 

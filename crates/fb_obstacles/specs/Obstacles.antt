@@ -11,21 +11,11 @@ use Rattle.fb_graph.specs.Steps.{Roles, gains, losses}
 use Rattle.fb_graph.specs.Covers.{HaveParity, is_covered_by}
 use Rattle.fb_graph.specs.Moves.{MaySplit, MayUncover}
 use Rattle.fb_laws.specs.Lengths.{IsGreatestStep}
+use Rattle.fb_regions.specs.Paces.{grows, shrinks}
 use Rattle.fb_regions.specs.declared.roles.Role.{Role}
-use Rattle.fb_regions.specs.declared.roles.Role.TheVariants.{Plus, Minus, Out}
 use Rattle.fb_obstacles.specs.InnerEdges.{is_inner}
 use Rattle.fb_obstacles.specs.declared.obstacle.Obstacle.{Obstacle}
 use Rattle.fb_obstacles.specs.declared.obstacle.Obstacle.TheVariants.{Absorb, Boundary, Meet, PlusPair, LayerEmpty, BlossomEmpty, ZeroMinus, Free}
-
-abbrev pub grows : Role → Bool
-grows Plus = true
-grows Minus = false
-grows Out = false
-
-abbrev pub shrinks : Role → Bool
-shrinks Plus = false
-shrinks Minus = true
-shrinks Out = false
 
 -- roles as two tests of names
 abbrev pub roles_by : (ℕ → Role) → Roles

@@ -517,7 +517,8 @@ fn place_due(known: &Known, queued: usize, due: Due) -> Option<usize>
     requires small { All (λ e. e < 2 ^ 32) (keys known.now) }
     ensures { MatchOption result
         ((i : ℕ) → i < queued → get_or (keys known.now) i 0 ≡ due.number → get_or (values known.now) i 0 ≡ due.growth → ⊥)
-        (λ place. (place < queued) × ((i : ℕ) → i < queued → get_or (keys known.now) i 0 ≡ due.number → i ≡ place)) }
+        (λ place. (place < queued) × (get_or (values known.now) place 0 ≡ due.growth)
+        × ((i : ℕ) → i < queued → get_or (keys known.now) i 0 ≡ due.number → i ≡ place)) }
 {
     let edge = edge_of(due)?;
     match known.get_index_of(&edge) {

@@ -123,18 +123,18 @@ module _ (p : Problem) (regions : List Region) (marks : List (Option Mark)) (kep
       by [] distinct parents = tt
       by (r ∷ rs) distinct parents = (up rs r.name r.parent parents.0, distinct.0, by rs distinct.1 parents.1)
 
-  -- a node taken away
-  module _ (places : List (Option ℕ)) (index : IsIndex regions places) (i : ℕ) where
-    pub removed_within : (other : List (Option ℕ)) → length other ≡ length places → All (λ r. r.name < length other) (remove regions i)
-    removed_within other same =
-        among_All (λ r. r.name < length other) (remove regions i)
-        (λ r a.
-        let less : r.name < length places =
-        All_among (λ s. s.name < length places) regions (names_within regions places index distinct_names) r (still_among regions i r a) in
-        omega (arith, same, less))
+-- a node taken away
+module _ (regions : List Region) (distinct : AreDistinct (names regions)) (places : List (Option ℕ)) (index : IsIndex regions places) (i : ℕ) where
+  pub removed_within : (other : List (Option ℕ)) → length other ≡ length places → All (λ r. r.name < length other) (remove regions i)
+  removed_within other same =
+      among_All (λ r. r.name < length other) (remove regions i)
+      (λ r a.
+      let less : r.name < length places =
+      All_among (λ s. s.name < length places) regions (names_within regions places index distinct) r (still_among regions i r a) in
+      omega (arith, same, less))
 
-    pub removed_before : (name : ℕ) (old : Region) → placed name regions ≡ Some i → old ≡ get_or regions i old → (other : List (Option ℕ))
-        → ((k : ℕ) → place_in other k ≡ (if name == k then None else place_in places k)) → IsIndexBefore i (remove regions i) other
-    removed_before name old at is_old other entries =
-        index_removed regions places other i old index distinct_names is_old (first_placed regions name i at).0
-        (λ k. entries k ∙ ap (λ n. if n == k then None else place_in places k) (sym (found marks regions name i old at is_old).named))
+  pub removed_before : (name : ℕ) (old : Region) → placed name regions ≡ Some i → old ≡ get_or regions i old → (other : List (Option ℕ))
+      → ((k : ℕ) → place_in other k ≡ (if name == k then None else place_in places k)) → IsIndexBefore i (remove regions i) other
+  removed_before name old at is_old other entries =
+      index_removed regions places other i old index distinct is_old (first_placed regions name i at).0
+      (λ k. entries k ∙ ap (λ n. if n == k then None else place_in places k) (sym (found [] regions name i old at is_old).named))

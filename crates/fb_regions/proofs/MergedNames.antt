@@ -11,10 +11,10 @@ use Rattle.fb_regions.specs.InternalNodes.{mark_of}
 module _ (f g : ℕ → ℕ) (same : (a : ℕ) → f a ≡ g a) where
   pub region_by : (r : Region) → renamed_region f r ≡ renamed_region g r
   region_by r =
-      ap (λ a. record r { name = a; children = with_items r.children (map f r.children.items); parent = option_map f r.parent }) (same r.name)
-      ∙ (ap (λ cs. record r { name = g r.name; children = with_items r.children cs; parent = option_map f r.parent })
+      ap (λ a. record r { name = a; children = with_items r.children (map f r.children.items); parent = option_map f r.parent; since = 0 }) (same r.name)
+      ∙ (ap (λ cs. record r { name = g r.name; children = with_items r.children cs; parent = option_map f r.parent; since = 0 })
       (map_agree f g r.children.items (All-from_is_in (λ c. f c ≡ g c) r.children.items (λ c h. same c)))
-      ∙ ap (λ o. record r { name = g r.name; children = with_items r.children (map g r.children.items); parent = o }) (parent r.parent))
+      ∙ ap (λ o. record r { name = g r.name; children = with_items r.children (map g r.children.items); parent = o; since = 0 }) (parent r.parent))
     where
       parent : (o : Option ℕ) → option_map f o ≡ option_map g o
       parent None = refl

@@ -1,5 +1,5 @@
 -- What a dual state says of covers, potentials and nodes, as it is read.
-use Rattle.std.proofs.Common.{ℕ, ◌≡◌, ◌+◌, ◌-◌, ◌≤◌, ◌^◌, ◌==◌, Bool, true, false, List, [], ◌∷◌, length, Option, Some, None, refl, sym, ap, ◌∙◌, arith, if◌then◌else◌}
+use Rattle.std.proofs.Common.{ℕ, inl, inr, ◌≡◌, ◌+◌, ◌-◌, ◌≤◌, ◌^◌, ◌==◌, Bool, true, false, List, [], ◌∷◌, length, Option, Some, None, refl, sym, ap, ◌∙◌, arith, if◌then◌else◌}
 use Rattle.std.specs.List.{All, range_with_len, sum_by}
 use Rattle.std.proofs.lemmas.Bool.{ne_eqb}
 use Rattle.std.proofs.lemmas.List.{length-append}
@@ -39,6 +39,11 @@ radii-le (r ∷ rs) x = by (r.name == x) r.parent (radii-le rs)
     by true (Some q) rest = omega (arith, rest q, sum_by-cons (λ (s : Region). s.radius) r rs)
     by false o rest = omega (arith, rest x, sum_by-cons (λ (s : Region). s.radius) r rs)
 
+radius-le-sum : (rs : List Region) (r : Region) → IsAmong r rs → r.radius ≤ sum_by (λ s. s.radius) rs
+radius-le-sum [] r a = absurd a
+radius-le-sum (x ∷ rs) r (inl e) = omega (arith, ap (λ s. s.radius) e, sum_by-cons (λ (s : Region). s.radius) x rs)
+radius-le-sum (x ∷ rs) r (inr a) = omega (arith, radius-le-sum rs r a, sum_by-cons (λ (s : Region). s.radius) x rs)
+
 all_radii : (marks : List (Option Mark)) (rs : List Region) → All (λ r. r.radius ≡ total_value (layers_of (node_of marks r))) rs
     → sum_by (λ r. r.radius) rs ≡ sum_by (λ n. total_value (layers_of n)) (nodes_of marks rs)
 all_radii marks [] h = refl
@@ -60,6 +65,16 @@ module _ (p : Problem) (regions : List Region) (marks : List (Option Mark)) (kep
       omega (
         arith,
         radii-le regions x,
+        all_radii marks regions kept.radii,
+        sum_by-flat_map (λ (c : Cut). c.value) layers_of (nodes_of marks regions),
+        kept.nest.dual.total,
+      )
+
+  pub radius_fits : (r : Region) → IsAmong r regions → r.radius ≤ 2 ^ 52
+  radius_fits r a =
+      omega (
+        arith,
+        radius-le-sum regions r a,
         all_radii marks regions kept.radii,
         sum_by-flat_map (λ (c : Cut). c.value) layers_of (nodes_of marks regions),
         kept.nest.dual.total,

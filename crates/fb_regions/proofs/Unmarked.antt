@@ -1,9 +1,10 @@
 -- The state without nodes.
-use Rattle.std.proofs.Common.{ℕ, ◌≡◌, List, [], replicate, Option, None, arith, rules}
+use Rattle.std.proofs.Common.{ℕ, ◌≡◌, List, [], replicate, Option, None, sym, subst, arith, rules}
 use Rattle.std.proofs.lemmas.Grind.{common_steps}
 use Rattle.fb_graph.specs.Problem.{Problem}
 use Rattle.fb_regions.specs.declared.marks.Mark.{Mark}
 use Rattle.fb_regions.specs.declared.region.Region.{Region}
+use Rattle.fb_regions.specs.InternalClock.{HaveBegun}
 use Rattle.fb_regions.specs.InternalKept.{IsKept}
 use Rattle.fb_regions.specs.InternalPlaces.{IsIndex}
 
@@ -13,3 +14,6 @@ kept_none p regions marks none unmarked = rw (none, unmarked) (grind (arith, com
 
 pub index_none : (regions : List Region) (places : List (Option ℕ)) → regions ≡ [] → places ≡ [] → IsIndex regions places
 index_none regions places none empty = rw (none, empty) (search rules)
+
+pub begun_none : (clock : ℕ) (regions : List Region) → regions ≡ [] → HaveBegun clock regions
+begun_none clock regions none = subst (HaveBegun clock) (sym none) (λ k d less. absurd (omega (arith, less)))

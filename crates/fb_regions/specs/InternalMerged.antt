@@ -7,10 +7,15 @@ use Rattle.fb_regions.specs.declared.region.Region.{Region}
 use Rattle.fb_regions.specs.InternalNodes.{mark_of}
 use Rattle.fb_regions.specs.InternalPlaces.{place_in}
 
--- the region under its new name, with the new names of its children and of the node round it
+-- the region under its new name, with the new names of its children and of the node round it, as one whose pace began at 0
 abbrev pub renamed_region : (ℕ → ℕ) → Region → Region
 renamed_region f r =
-    record r { name = f r.name; children = with_items r.children (map f r.children.items); parent = option_map f r.parent }
+    record r {
+      name = f r.name;
+      children = with_items r.children (map f r.children.items);
+      parent = option_map f r.parent;
+      since = 0;
+    }
 
 abbrev pub renamed_regions : (ℕ → ℕ) → List Region → List Region
 renamed_regions f regions = map (renamed_region f) regions

@@ -1,4 +1,5 @@
 pub mod Holders
+pub mod InternalClock
 pub mod InternalCodes
 pub mod InternalKept
 pub mod InternalListings
@@ -11,4 +12,5 @@ pub mod InternalTables
 pub mod Listed
 pub mod Merged
 pub mod Moves
+pub mod Paces
 pub mod Walks

@@ -2,6 +2,7 @@
 
 #![tactic(auto)]
 
+mod clock;
 mod listing;
 mod marks;
 mod merging;

@@ -35,7 +35,8 @@ pub fn take_nodes(
     Ok(names)
 }
 
-/// Puts a node behind the others, under its new name, and with the new names of its children and of the node round it.
+/// Puts a node at rest behind the others, under its new name, and with the new names of its children and of the node round
+/// it.
 fn take_node(
     regions: &mut Vec<Region>,
     places: &mut Vec<Option<usize>>,
@@ -47,6 +48,7 @@ fn take_node(
 {
     region.name = names.of(region.name);
     region.parent = names.of_option(region.parent);
+    region.since = 0;
     rename_all(&mut region.children, names);
     make_room(regions, places, region.name)?;
     enter(regions, places, region);

@@ -2,12 +2,14 @@ ghost use Rattle.std.specs.Prelude.{◌≡◌, ◌+◌, ◌<◌, ◌^◌, [], �
 ghost use Rattle.fb_graph.specs.Dual.{layers_of};
 ghost use Rattle.fb_graph.specs.Printed.{is_positive};
 ghost use Rattle.fb_graph.specs.Certificate.{AreDistinct, total_value};
+ghost use Rattle.fb_regions.specs.InternalClock.{HasBegun, HaveBegun, all_at, now_at};
 ghost use Rattle.fb_regions.specs.InternalNodes.{reparented_region, chain, node_of, radii_from, root_from, stack};
 ghost use Rattle.fb_regions.specs.InternalPlaces.{AreJoinedAbove, IsIndex};
 
-use crate::NodeId;
+use crate::clock::{radius_at, top_at};
 use crate::marks::Marks;
 use crate::places::place_of;
+use crate::{NodeId, Role};
 use fb_graph::{Cut, NoMemory, NumberList};
 use std::alloc::Global;
 
@@ -29,10 +31,14 @@ pub struct Region {
     pub added: usize,
     /// The last of its vertices.
     pub last: u32,
-    /// The value of its top layer.
+    /// The value of its top layer when its pace began.
     pub top_value: u64,
-    /// The sum of the values of its layers.
+    /// The sum of the values of its layers when its pace began.
     pub radius: u64,
+    /// How its top layer moves with the clock.
+    pub pace: Role,
+    /// The time at which that began.
+    pub since: u64,
 }
 
 /// The name of the outer node round a node; none if no node has the name. Climbs from each node to the one that
@@ -62,18 +68,24 @@ pub struct Climb {
     pub radii: u64,
 }
 
-/// Climbs as `root_of` does, and adds up the radii on the way.
-pub fn climb_from(places: &[Option<usize>], regions: &[Region], leaf: NodeId) -> Option<Climb>
+/// Climbs as `root_of` does, and adds up the radii at this time on the way.
+pub fn climb_from(
+    places: &[Option<usize>],
+    regions: &[Region],
+    clock: u64,
+    leaf: NodeId,
+) -> Option<Climb>
     requires index { IsIndex regions.now places.now }
     requires joined { AreJoinedAbove regions.now }
-    requires fits { radii_from regions.now leaf < 2 ^ 64 }
-    ensures { result ≡ option_map (λ root. record { root = root; radii = radii_from regions.now leaf }) (root_from regions.now leaf) }
+    requires begun { HaveBegun clock regions.now }
+    requires fits { radii_from (all_at clock regions.now) leaf < 2 ^ 64 }
+    ensures { result ≡ option_map (λ root. record { root = root; radii = radii_from (all_at clock regions.now) leaf }) (root_from regions.now leaf) }
 {
     let mut name = leaf;
     let mut radii = 0;
     while let Some(place) = place_of(places, name) {
         let region = &regions[place];
-        radii += region.radius;
+        radii += radius_at(region, clock);
         let Some(parent) = region.parent else {
             return Some(Climb { root: name, radii });
         };
@@ -119,16 +131,23 @@ fn vertices_back(
     Ok(vertices)
 }
 
-/// A copy of the layers of a node, from the first to the top.
-pub fn layers(alloc: Global, marks: &Marks, region: &Region) -> Result<Vec<Cut>, NoMemory>
-    ensures { IfOk result (λ v. v.items ≡ layers_of (node_of marks.now region.now)) }
+/// A copy of the layers of a node at this time, from the first to the top.
+pub fn layers(
+    alloc: Global,
+    marks: &Marks,
+    region: &Region,
+    clock: u64,
+) -> Result<Vec<Cut>, NoMemory>
+    requires begun { HasBegun clock region.now }
+    requires fits { (now_at clock region.now).top_value < 2 ^ 64 }
+    ensures { IfOk result (λ v. v.items ≡ layers_of (node_of marks.now (now_at clock region.now))) }
 {
     let added = vertices_back(alloc, marks, region.added, region.last)?;
     let mut set = vertices_back(alloc, marks, region.base, region.base_last)?;
     let mut layers = lower_layers(alloc, marks, added.as_slice(), &mut set)?;
     let vertices = NumberList::from_vec(set);
     layers.push(Cut {
-        value: region.top_value,
+        value: top_at(region, clock),
         vertices,
     })?;
     Ok(layers)
@@ -152,24 +171,28 @@ fn lower_layers(
     Ok(layers)
 }
 
-/// Copies of the layers of a node that have a value, from the first to the top, behind those of a list. Its vertices are
-/// read only if there are such layers.
+/// Copies of the layers of a node that have a value at this time, from the first to the top, behind those of a list. Its
+/// vertices are read only if there are such layers.
 pub fn put_cuts(
     alloc: Global,
     marks: &Marks,
     region: &Region,
+    clock: u64,
     cuts: &mut Vec<Cut>,
 ) -> Result<(), NoMemory>
-    requires { region.now.radius ≡ total_value (layers_of (node_of marks.now region.now)) }
-    ensures { OnOk result (cuts.new.items ≡ cuts.old.items ++ filter is_positive (layers_of (node_of marks.now region.now))) }
+    requires begun { HasBegun clock region.now }
+    requires top { (now_at clock region.now).top_value < 2 ^ 64 }
+    requires fits { (now_at clock region.now).radius < 2 ^ 64 }
+    requires radius { (now_at clock region.now).radius ≡ total_value (layers_of (node_of marks.now (now_at clock region.now))) }
+    ensures { OnOk result (cuts.new.items ≡ cuts.old.items ++ filter is_positive (layers_of (node_of marks.now (now_at clock region.now)))) }
 {
-    if region.radius == 0 {
+    if radius_at(region, clock) == 0 {
         return Ok(());
     }
     let added = vertices_back(alloc, marks, region.added, region.last)?;
     let mut set = vertices_back(alloc, marks, region.base, region.base_last)?;
     put_lower_cuts(alloc, marks, added.as_slice(), &mut set, cuts)?;
-    put_top(region.top_value, set, cuts)
+    put_top(top_at(region, clock), set, cuts)
 }
 
 /// Copies of the layers below those that the vertices began, over a first set, behind which it puts the vertices: those

@@ -1,8 +1,9 @@
-ghost use Rattle.std.specs.Prelude.{◌≡◌, ◌+◌, ◌-◌, ◌<◌, ◌≤◌, ◌==◌, not, true, false, [], ◌∷◌, ◌++◌, length, filter, reverse, IfOk, OnOk, OnErr, IsSome, None, Some};
+ghost use Rattle.std.specs.Prelude.{◌≡◌, ◌+◌, ◌-◌, ◌<◌, ◌≤◌, ◌==◌, ◌&&◌, ℕ, if◌then◌else◌, not, true, false, [], ◌∷◌, ◌++◌, length, filter, reverse, IfOk, OnOk, OnErr, IsSome, None, Some};
 ghost use Rattle.std.specs.List.{last_or};
 ghost use Rattle.fb_graph.specs.Parity.{is_in};
 ghost use Rattle.fb_graph.specs.Problem.{edge_at};
 ghost use Rattle.fb_graph.specs.Certificate.{load_of};
+ghost use Rattle.fb_graph.specs.Covers.{AreRoles};
 ghost use Rattle.fb_graph.specs.Dual.{AreUnderOne, all_cuts, change_at, cover_of, height_of, is_empty, is_live, is_outer, leaf, leaves, node_at, thicker_node, AllowsGrowth, IsCrossed, layers_at, top_at};
 ghost use Rattle.fb_graph.specs.NestUnions.{AreParts};
 ghost use Rattle.fb_graph.specs.Printed.{is_positive};
@@ -14,20 +15,25 @@ ghost use Rattle.fb_regions.specs.Merged.{AreNewNames};
 ghost use Rattle.fb_graph.specs.Moves.{MayJoin, MaySplit, MayUncover, joined_nodes, split_nodes, uncovered_nodes};
 ghost use Rattle.fb_graph.specs.Nests.{IsNest};
 ghost use Rattle.fb_graph.specs.SourceWalks.{HaveWalks};
+ghost use Rattle.fb_graph.specs.Steps.{AreExclusive, MayStep, stepped_nodes};
 ghost use Rattle.fb_graph.specs.Turns.{thinner_node};
+ghost use Rattle.fb_regions.specs.Paces.{IsAtRest, IsRepaced, pace_in, paces_of};
+ghost use Rattle.fb_regions.specs.declared.roles.Role.TheVariants.{Out};
 ghost use Rattle.fb_regions.specs.Moves.{BeginsWith, IsOver, IsSourceWalk, absorbed_over, inner_end, node_named, outer_end};
 
+use crate::clock::{settle, settle_all, top_at};
 use crate::listing::list_together;
 use crate::marks::{Hop, Mark, Marks};
 use crate::merging::{take_marks, take_nodes};
 use crate::places::{enter, enter_from, make_room, place_of, set_place};
 use crate::region::{self, Region, adopt, climb_from, root_of};
-use crate::{Layer, NodeId, Step, Walk};
+use crate::{Layer, NodeId, Role, Roles, Step, Walk};
 use fb_graph::{NoMemory, Scope};
 use std::alloc::Global;
 use std::marker::Model;
 
-/// The dual state over a scope: nodes, each a stack of layers, which are vertex sets with values. A node is a defect,
+/// The dual state over a scope: nodes, each a stack of layers, which are vertex sets with values. The top layers of nodes to
+/// which a pace is set grow or shrink together as time passes, at no cost for each. A node is a defect,
 /// or a blossom of an odd number of nodes (Edmonds 1965). The caller names each node by a number that isn't live
 /// there. A node is found by its name in constant time, which takes room for each number up to the largest name. A
 /// call that returns `NoMemory` leaves the state as it was.
@@ -43,6 +49,8 @@ pub struct Regions<S: Scope> {
     places: Vec<Option<usize>>,
     /// A mark for each vertex that a node holds.
     marks: Marks,
+    /// The time: by how much each node that moves has moved since its pace began.
+    clock: u64,
 }
 
 /// The outer node that holds a vertex, and the vertex's potential.
@@ -93,41 +101,48 @@ impl SpareRegions {
 }
 
 impl<S: Scope> Model for Regions<S> {
-    ghost use Rattle.fb_graph.specs.Dual.{Dual};
-    ghost use Rattle.fb_regions.specs.InternalCodes.{dual_code};
-
-    ghost Value = { Dual S };
-
-    ghost coded = { dual_code S.code };
-
+    ghost use Rattle.fb_regions.specs.InternalClock.{HaveBegun, all_at, names_paced};
+    ghost use Rattle.fb_regions.specs.InternalCodes.{paced_code};
+    ghost use Rattle.fb_regions.specs.Paces.{Paced, grows, shrinks};
     ghost use Rattle.fb_regions.specs.InternalKept.{IsKept};
     ghost use Rattle.fb_regions.specs.InternalNodes.{nodes_of};
     ghost use Rattle.fb_regions.specs.InternalPlaces.{IsIndex};
 
-    ghost view = { λ r. record { scope = r.scope; nodes = nodes_of r.marks r.regions.items } };
+    ghost Value = { Paced S };
 
-    ghost invariant = { λ r. IsKept (S.problem r.scope) r.regions.items r.marks
-        × IsIndex r.regions.items r.places.items };
+    ghost coded = { paced_code S.code };
+
+    ghost view = { λ r. record {
+      scope = r.scope;
+      nodes = nodes_of r.marks (all_at r.clock r.regions.items);
+      plus = names_paced grows r.regions.items;
+      minus = names_paced shrinks r.regions.items;
+    } };
+
+    ghost invariant = { λ r. IsKept (S.problem r.scope) (all_at r.clock r.regions.items) r.marks
+        × IsIndex r.regions.items r.places.items
+        × HaveBegun r.clock r.regions.items };
 }
 
 impl<S: Scope> Regions<S> {
     /// The state without nodes. Takes no memory: the first node takes room for a mark of each vertex of the scope, and time
     /// for each 512 vertices.
     pub fn new(alloc: Global, scope: &S) -> Result<Regions<S>, NoMemory>
-        ensures { IfOk result (λ r. r ≡ record { scope = scope.now; nodes = [] }) }
+        ensures { IfOk result (λ r. r ≡ record { scope = scope.now; nodes = []; plus = []; minus = [] }) }
     {
         Ok(Regions {
             scope: *scope,
             regions: Vec::new(alloc),
             places: Vec::new(alloc),
             marks: Marks::new(alloc, scope.vertices()),
+            clock: 0,
         })
     }
 
     /// The state without nodes, in the room of another one if that was over as many vertices, else without room. Takes no
     /// memory.
     pub fn on(alloc: Global, spare: SpareRegions, scope: &S) -> Result<Regions<S>, NoMemory>
-        ensures { IfOk result (λ r. r ≡ record { scope = scope.now; nodes = [] }) }
+        ensures { IfOk result (λ r. r ≡ record { scope = scope.now; nodes = []; plus = []; minus = [] }) }
     {
         if spare.marks.vertices() != scope.vertices() {
             return Regions::new(alloc, scope);
@@ -142,6 +157,7 @@ impl<S: Scope> Regions<S> {
             regions,
             places,
             marks,
+            clock: 0,
         })
     }
 
@@ -154,12 +170,14 @@ impl<S: Scope> Regions<S> {
             regions,
             places,
             marks,
+            clock: _,
         } = self;
         SpareRegions::from_used(regions, places, marks)
     }
 
-    /// The nodes of two separated parts as those of a whole. The left one's names stay, and the right one's nodes get the
-    /// new names that the list has beside their old ones. Its time is that of the right one's nodes and vertices.
+    /// The nodes of two separated parts as those of a whole. The left one's names and paces stay, and the right one's nodes,
+    /// none of which moves, get the new names that the list has beside their old ones. Its time is that of the right one's
+    /// nodes and vertices.
     pub fn merged(
         alloc: Global,
         left: Regions<S>,
@@ -167,11 +185,12 @@ impl<S: Scope> Regions<S> {
         nodes: &[(NodeId, NodeId)],
         scope: &S,
     ) -> Result<Regions<S>, NoMemory>
+        requires rest { IsAtRest right }
         requires names { AreNewNames left.nodes right.nodes (name_by nodes.now) }
         requires parts { AreParts (S.problem left.scope) (S.problem right.scope) (S.problem scope.now) }
         requires left_vertices { (S.problem left.scope).vertices ≡ (S.problem scope.now).vertices }
         requires right_vertices { (S.problem right.scope).vertices ≡ (S.problem scope.now).vertices }
-        ensures { IfOk result (λ r. r ≡ record { scope = scope.now; nodes = left.nodes ++ renamed_nodes (name_by nodes.now) right.nodes }) }
+        ensures { IfOk result (λ r. r ≡ record left { scope = scope.now; nodes = left.nodes ++ renamed_nodes (name_by nodes.now) right.nodes }) }
     {
         let (merged, _spare) = Regions::merged_with_spare(alloc, left, right, nodes, scope)?;
         Ok(merged)
@@ -185,11 +204,12 @@ impl<S: Scope> Regions<S> {
         nodes: &[(NodeId, NodeId)],
         scope: &S,
     ) -> Result<(Regions<S>, SpareRegions), NoMemory>
+        requires rest { IsAtRest right }
         requires names { AreNewNames left.nodes right.nodes (name_by nodes.now) }
         requires parts { AreParts (S.problem left.scope) (S.problem right.scope) (S.problem scope.now) }
         requires left_vertices { (S.problem left.scope).vertices ≡ (S.problem scope.now).vertices }
         requires right_vertices { (S.problem right.scope).vertices ≡ (S.problem scope.now).vertices }
-        ensures { IfOk result (λ r. r.0 ≡ record { scope = scope.now; nodes = left.nodes ++ renamed_nodes (name_by nodes.now) right.nodes }) }
+        ensures { IfOk result (λ r. r.0 ≡ record left { scope = scope.now; nodes = left.nodes ++ renamed_nodes (name_by nodes.now) right.nodes }) }
     {
         scope.limits();
         let Regions {
@@ -197,12 +217,14 @@ impl<S: Scope> Regions<S> {
             mut regions,
             mut places,
             mut marks,
+            clock,
         } = left;
         let Regions {
             scope: _,
             regions: mut others,
             places: other_places,
             marks: more,
+            clock: _,
         } = right;
         let names = take_nodes(alloc, &mut regions, &mut places, &mut others, nodes)?;
         take_marks(alloc, &mut marks, &more, &names)?;
@@ -212,6 +234,7 @@ impl<S: Scope> Regions<S> {
             regions,
             places,
             marks,
+            clock,
         };
         Ok((merged, spare))
     }
@@ -220,6 +243,7 @@ impl<S: Scope> Regions<S> {
     pub fn keeps(&self)
         ensures nest { IsNest (S.problem self.now.scope) self.now.nodes }
         ensures walks { HaveWalks (S.problem self.now.scope) self.now.nodes }
+        ensures paces { AreExclusive (paces_of self.now) }
     {
         let _regions = &self.regions;
     }
@@ -238,7 +262,7 @@ impl<S: Scope> Regions<S> {
         requires real { (S.problem self.old.scope).is_real v ≡ true }
         requires uncovered { cover_of self.old.nodes v ≡ None }
         requires fresh { is_live self.old.nodes node ≡ false }
-        ensures ok { OnOk result (self.new ≡ record { scope = self.old.scope; nodes = self.old.nodes ++ leaf node v ∷ [] }) }
+        ensures ok { OnOk result (self.new ≡ record self.old { nodes = self.old.nodes ++ leaf node v ∷ [] }) }
         ensures err { OnErr result (self.new ≡ self.old) }
     {
         make_room(&mut self.regions, &mut self.places, node)?;
@@ -263,6 +287,8 @@ impl<S: Scope> Regions<S> {
             last: v,
             top_value: 0,
             radius: 0,
+            pace: Role::Out,
+            since: 0,
         };
         enter(&mut self.regions, &mut self.places, leaf);
         Ok(())
@@ -277,7 +303,7 @@ impl<S: Scope> Regions<S> {
         children: &[NodeId],
     ) -> Result<(), NoMemory>
         requires { MayJoin self.old.nodes node children.now }
-        ensures ok { OnOk result (self.new ≡ record { scope = self.old.scope; nodes = joined_nodes node children.now self.old.nodes }) }
+        ensures ok { OnOk result (self.new ≡ record self.old { nodes = joined_nodes node children.now self.old.nodes }) }
         ensures err { OnErr result (self.new ≡ self.old) }
     {
         self.scope.limits();
@@ -296,16 +322,19 @@ impl<S: Scope> Regions<S> {
             last: listing.last,
             top_value: 0,
             radius: 0,
+            pace: Role::Out,
+            since: 0,
         };
         enter(&mut self.regions, &mut self.places, blossom);
         Ok(())
     }
 
-    /// Takes away an outer blossom that has one layer, of value 0, so that the nodes that it joins are outer again. Takes
-    /// time for these and for each node that was made after the blossom.
+    /// Takes away an outer blossom that doesn't move and has one layer, of value 0, so that the nodes that it joins are outer
+    /// again. Takes time for these and for each node that was made after the blossom.
     pub fn split_node(&mut self, node: NodeId) -> Result<(), NoMemory>
-        requires { MaySplit self.old.nodes node }
-        ensures ok { OnOk result (self.new ≡ record { scope = self.old.scope; nodes = split_nodes node self.old.nodes }) }
+        requires empty { MaySplit self.old.nodes node }
+        requires rest { pace_in self.old node ≡ Out }
+        ensures ok { OnOk result (self.new ≡ record self.old { nodes = split_nodes node self.old.nodes }) }
         ensures err { OnErr result (self.new ≡ self.old) }
     {
         let Some(place) = place_of(&self.places, node) else {
@@ -329,13 +358,14 @@ impl<S: Scope> Regions<S> {
         requires outer { is_outer self.old.nodes node ≡ true }
         requires leaves { IsCrossed (S.problem self.old.scope) (top_at self.old.nodes node) }
         requires room { AllowsGrowth (S.problem self.old.scope) self.old.nodes (top_at self.old.nodes node) k }
-        ensures { self.new ≡ record { scope = self.old.scope; nodes = change_at node (thicker_node k) self.old.nodes } }
+        ensures { self.new ≡ record self.old { nodes = change_at node (thicker_node k) self.old.nodes } }
     {
         self.scope.limits();
         let Some(place) = place_of(&self.places, node) else {
             unreachable!()
         };
         let region = &mut self.regions[place];
+        settle(region, self.clock);
         region.top_value += k;
         region.radius += k;
     }
@@ -345,15 +375,46 @@ impl<S: Scope> Regions<S> {
         requires live { is_live self.old.nodes node ≡ true }
         requires outer { is_outer self.old.nodes node ≡ true }
         requires value { k ≤ (node_named self.old.nodes node).top.value }
-        ensures { self.new ≡ record { scope = self.old.scope; nodes = change_at node (thinner_node k) self.old.nodes } }
+        ensures { self.new ≡ record self.old { nodes = change_at node (thinner_node k) self.old.nodes } }
     {
         self.scope.limits();
         let Some(place) = place_of(&self.places, node) else {
             unreachable!()
         };
         let region = &mut self.regions[place];
+        settle(region, self.clock);
         region.top_value -= k;
         region.radius -= k;
+    }
+
+    /// Sets how the top layer of a node moves from now on; nothing happens if no node has the name. Takes constant time.
+    pub fn set_pace(&mut self, node: NodeId, pace: Role)
+        ensures same { IsRepaced self.old self.new }
+        ensures paces { (n : ℕ) → pace_in self.new n ≡ (if (n == node) && is_live self.old.nodes node then pace else pace_in self.old n) }
+    {
+        self.scope.limits();
+        if let Some(place) = place_of(&self.places, node) {
+            let region = &mut self.regions[place];
+            settle(region, self.clock);
+            region.pace = pace;
+        }
+    }
+
+    /// Lets the time pass: the top layer of each node that moves grows or shrinks by the length. Takes constant time, but
+    /// that of all nodes where the time would be 2^64 or more.
+    pub fn advance(&mut self, length: u64)
+        requires roles { AreRoles (paces_of self.old) self.old.nodes }
+        requires crossed { (n : ℕ) → is_in self.old.plus n ≡ true → IsCrossed (S.problem self.old.scope) (top_at self.old.nodes n) }
+        requires may { MayStep (S.problem self.old.scope) (paces_of self.old) self.old.nodes length }
+        ensures { self.new ≡ record self.old { nodes = stepped_nodes (paces_of self.old) length self.old.nodes } }
+    {
+        self.scope.limits();
+        if let Some(clock) = self.clock.checked_add(length) {
+            self.clock = clock;
+        } else {
+            settle_all(&mut self.regions, self.clock);
+            self.clock = length;
+        }
     }
 
     /// Absorbs the outer end of a tight edge into the outer node that holds its inner end.
@@ -363,7 +424,7 @@ impl<S: Scope> Regions<S> {
         requires inner { IsSome (cover_of self.old.nodes (inner_end self.old.nodes (edge_at (S.problem self.old.scope).edges edge))) }
         requires outer { cover_of self.old.nodes (outer_end self.old.nodes (edge_at (S.problem self.old.scope).edges edge)) ≡ None }
         requires real { (S.problem self.old.scope).is_real (outer_end self.old.nodes (edge_at (S.problem self.old.scope).edges edge)) ≡ true }
-        ensures { self.new ≡ record { scope = self.old.scope; nodes = absorbed_over self.old.nodes (edge_at (S.problem self.old.scope).edges edge) } }
+        ensures { self.new ≡ record self.old { nodes = absorbed_over self.old.nodes (edge_at (S.problem self.old.scope).edges edge) } }
     {
         self.scope.limits();
         let step = self.step_over(edge);
@@ -377,6 +438,7 @@ impl<S: Scope> Regions<S> {
             unreachable!()
         };
         let region = &mut self.regions[place];
+        settle(region, self.clock);
         let taken = Mark {
             source: mark.source,
             leaf: mark.leaf,
@@ -399,12 +461,13 @@ impl<S: Scope> Regions<S> {
     /// uncovered.
     pub fn uncover(&mut self, node: NodeId)
         requires { MayUncover self.old.nodes node }
-        ensures { self.new ≡ record { scope = self.old.scope; nodes = uncovered_nodes node self.old.nodes } }
+        ensures { self.new ≡ record self.old { nodes = uncovered_nodes node self.old.nodes } }
     {
         let Some(place) = place_of(&self.places, node) else {
             unreachable!()
         };
         let region = &mut self.regions[place];
+        settle(region, self.clock);
         let last = region.last;
         let Some(mark) = self.marks.at(last) else {
             unreachable!()
@@ -479,7 +542,7 @@ impl<S: Scope> Regions<S> {
         ensures { IsHolder self.now.nodes v result }
     {
         let mark = self.marks.at(v)?;
-        let climb = climb_from(&self.places, &self.regions, mark.leaf)?;
+        let climb = climb_from(&self.places, &self.regions, self.clock, mark.leaf)?;
         Some(Holder {
             node: climb.root,
             potential: climb.radii - mark.distance,
@@ -515,7 +578,7 @@ impl<S: Scope> Regions<S> {
         let Some(place) = place_of(&self.places, node) else {
             unreachable!()
         };
-        region::layers(alloc, &self.marks, &self.regions[place])
+        region::layers(alloc, &self.marks, &self.regions[place], self.clock)
     }
 
     /// Copies of the layers of positive value of all nodes: for each node in the order in which they were made, from its
@@ -524,9 +587,10 @@ impl<S: Scope> Regions<S> {
     pub fn cuts(&self, alloc: Global) -> Result<Vec<Layer>, NoMemory>
         ensures { IfOk result (λ cuts. cuts.items ≡ filter is_positive (all_cuts self.now.nodes)) }
     {
+        self.scope.limits();
         let mut cuts = Vec::new(alloc);
         for region in &self.regions {
-            region::put_cuts(alloc, &self.marks, region, &mut cuts)?;
+            region::put_cuts(alloc, &self.marks, region, self.clock, &mut cuts)?;
         }
         Ok(cuts)
     }
@@ -613,7 +677,7 @@ impl<S: Scope> Regions<S> {
         let Some(place) = place_of(&self.places, node) else {
             unreachable!()
         };
-        self.regions[place].top_value
+        top_at(&self.regions[place], self.clock)
     }
 
     /// Whether the node joins others.
@@ -640,5 +704,16 @@ impl<S: Scope> Regions<S> {
         ensures { result ≡ (node_at self.now.nodes place).name }
     {
         self.regions[place].name
+    }
+}
+
+impl<S: Scope> Roles for Regions<S> {
+    ghost role_of = { λ r name. pace_in r name };
+
+    fn role(&self, node: NodeId) -> Role {
+        match place_of(&self.places, node) {
+            Some(place) => self.regions[place].pace,
+            None => Role::Out,
+        }
     }
 }

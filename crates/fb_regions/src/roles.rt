@@ -3,7 +3,7 @@ ghost use Rattle.fb_regions.specs.declared.roles.Role.{Role};
 
 use crate::NodeId;
 
-/// What becomes of an outer node when a tree grows: a plus node grows, a minus node shrinks, all others stay.
+/// What becomes of an outer node when trees grow: a plus node grows, a minus node shrinks, all others stay.
 #[derive(Clone, Copy, Debug, PartialEq, Eq)]
 pub enum Role {
     Plus,

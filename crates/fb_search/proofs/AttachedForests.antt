@@ -30,7 +30,8 @@ use Rattle.fb_half.specs.declared.matches.Match.{Match}
 use Rattle.fb_half.specs.Matchings.{IsMatchingOf, MatchingValue, listed_names, match_links}
 use Rattle.fb_half.specs.Parts.{AreLinksOf, problem_in}
 use Rattle.fb_half.specs.Translations.{entry_by, link_by, link_of, ring_links}
-use Rattle.fb_obstacles.specs.Obstacles.{IsWatched, grows, shrinks, slack_at}
+use Rattle.fb_regions.specs.Paces.{grows, shrinks}
+use Rattle.fb_obstacles.specs.Obstacles.{IsWatched, slack_at}
 use Rattle.fb_obstacles.specs.Watched.{AreBounded, Watched}
 use Rattle.fb_obstacles.specs.InternalWatching.{EntersNode, Watches}
 use Rattle.fb_regions.specs.Moves.{node_named}

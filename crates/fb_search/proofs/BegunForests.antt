@@ -14,7 +14,8 @@ use Rattle.fb_laws.proofs.ForestParts.{forest_state_begins}
 use Rattle.fb_laws.proofs.SearchTrees.{cover_set}
 use Rattle.fb_half.specs.Matchings.{IsMatchingOf}
 use Rattle.fb_half.specs.Parts.{AreLinksOf, IsPart, PartValue, kept_links, problem_in, state_of}
-use Rattle.fb_obstacles.specs.Obstacles.{grows, slack_at}
+use Rattle.fb_regions.specs.Paces.{grows}
+use Rattle.fb_obstacles.specs.Obstacles.{slack_at}
 use Rattle.fb_obstacles.specs.Watched.{Watched}
 use Rattle.fb_regions.specs.declared.roles.Role.TheVariants.{Plus, Minus, Out}
 use Rattle.fb_trees.specs.Branches.{Grown}
@@ -44,7 +45,7 @@ pub bare_names : (names : List ℕ) → roots_in (bare_trees names) ≡ names
 bare_names [] = refl
 bare_names (n ∷ ns) = ap (λ l. n ∷ l) (bare_names ns)
 
-bare_plus : (names : List ℕ) → all_plus (trees_in (bare_trees names)) ≡ names
+pub bare_plus : (names : List ℕ) → all_plus (trees_in (bare_trees names)) ≡ names
 bare_plus [] = refl
 bare_plus (n ∷ ns) = ap (λ l. n ∷ l) (bare_plus ns)
 

@@ -21,7 +21,8 @@ use Rattle.fb_plan.specs.Plans.{PlanTree, problem_at}
 use Rattle.fb_half.specs.Parts.{PartValue, graph_in, problem_in}
 use Rattle.fb_obstacles.specs.InternalWatch.{StaysRight}
 use Rattle.fb_obstacles.specs.InternalWatching.{Watches}
-use Rattle.fb_obstacles.specs.Obstacles.{IsWatched, grows, roles_by, shrinks, slack_at}
+use Rattle.fb_regions.specs.Paces.{grows, shrinks}
+use Rattle.fb_obstacles.specs.Obstacles.{IsWatched, roles_by, slack_at}
 use Rattle.fb_obstacles.specs.Watched.{AreBounded, Watched}
 use Rattle.fb_obstacles.proofs.ForgottenBounds.{right_twice}
 use Rattle.fb_obstacles.proofs.WatchSteps.{bounded_by}

@@ -1,5 +1,5 @@
 -- The nodes over the ends of a tight edge where a tree meets another node, or itself.
-use Rattle.std.proofs.Common.{ℕ, ◌≡◌, inl, inr, List, Some, sym, ap, ◌∙◌}
+use Rattle.std.proofs.Common.{ℕ, ◌≡◌, inl, inr, List, Some, ap, ◌∙◌}
 use Rattle.fb_graph.specs.Components.{Leads}
 use Rattle.fb_graph.specs.Dual.{Node, cover_of}
 use Rattle.fb_graph.specs.declared.parts.Edge.{Edge}

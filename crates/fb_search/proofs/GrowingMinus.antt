@@ -10,7 +10,8 @@ use Rattle.fb_regions.specs.Moves.{node_named}
 use Rattle.fb_trees.specs.Branches.{Grown}
 use Rattle.fb_trees.specs.Forests.{all_minus, all_plus, bare_trees, trees_in}
 use Rattle.fb_obstacles.specs.InternalWatching.{EntersNode}
-use Rattle.fb_obstacles.specs.Obstacles.{AreMinusBounded, shrinks}
+use Rattle.fb_regions.specs.Paces.{shrinks}
+use Rattle.fb_obstacles.specs.Obstacles.{AreMinusBounded}
 use Rattle.fb_obstacles.specs.Watched.{Watched, has_bound}
 use Rattle.fb_obstacles.proofs.NodeLooks.{named_only}
 use Rattle.fb_search.specs.InternalGrowing.{roles_among}

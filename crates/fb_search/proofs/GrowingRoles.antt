@@ -37,9 +37,10 @@ use Rattle.fb_half.specs.Parts.{PartValue, problem_in, shot_of}
 use Rattle.fb_half.specs.Translations.{link_by}
 use Rattle.fb_trees.specs.Branches.{Grown}
 use Rattle.fb_trees.specs.Forests.{all_minus, all_plus, all_roles, trees_in}
-use Rattle.fb_trees.specs.InternalSteps.{AreTreesOver}
+use Rattle.fb_trees.specs.TreesOver.{AreTreesOver}
 use Rattle.fb_trees.proofs.Mapped as mapped
-use Rattle.fb_obstacles.specs.Obstacles.{grows, roles_by, shrinks}
+use Rattle.fb_regions.specs.Paces.{grows, shrinks}
+use Rattle.fb_obstacles.specs.Obstacles.{roles_by}
 use Rattle.fb_search.specs.InternalGrowing.{GrowingValue, forest_state_at, roles_among, roots_in, tree_by, waiting_in}
 use Rattle.fb_search.proofs.SearchRoles.{distinct_roles}
 use Rattle.fb_search.proofs.WaitingNames.{linked_roots}

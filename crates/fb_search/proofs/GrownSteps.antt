@@ -18,7 +18,7 @@ use Rattle.fb_obstacles.specs.Watched.{AreBounded}
 use Rattle.fb_plan.specs.Plans.{PlanTree, problem_at}
 use Rattle.fb_regions.proofs.Readings.{height-le}
 use Rattle.fb_trees.specs.Forests.{all_roles, trees_in}
-use Rattle.fb_trees.specs.InternalSteps.{AreTreesOver}
+use Rattle.fb_trees.specs.TreesOver.{AreTreesOver}
 use Rattle.fb_search.specs.InternalGrowing.{GrowingValue, IsGrowing, all_along, forest_state_at, grown_ids, roles_among}
 use Rattle.fb_search.specs.InternalGrowth.{grown_by}
 use Rattle.fb_search.specs.InternalGrowth.{lowered_by}

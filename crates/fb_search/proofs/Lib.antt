@@ -83,6 +83,9 @@ pub mod OpenedWatches
 pub mod OpenedWays
 pub mod Openings
 pub mod OutsideNodes
+pub mod PacedBlossoms
+pub mod PacedMoves
+pub mod PacedTrees
 pub mod PairedTrees
 pub mod Relayered
 pub mod ReleasedForests

@@ -1,5 +1,5 @@
 -- What it says for the unmatched nodes of a part that trees have grown from some of them until each was matched.
-use Rattle.std.proofs.Common.{ℕ, ◌≡◌, ◌∷◌, ◌==◌, ◌+◌, filter, not, Bool, true, false, List, [], All, drop, length, take, refl, sym, ap, subst, ◌∙◌, arith}
+use Rattle.std.proofs.Common.{ℕ, ◌≡◌, ◌∷◌, ◌==◌, filter, not, Bool, true, false, List, [], All, drop, take, refl, sym, ap, subst, ◌∙◌, arith}
 use Rattle.std.proofs.lemmas.Bool.{and_from, and_parts, both_ways, not_from_false, or_parts}
 use Rattle.std.proofs.lemmas.List.{take-append-drop}
 use Rattle.fb_graph.specs.Parity.{is_in}

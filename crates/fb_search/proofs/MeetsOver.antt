@@ -8,7 +8,8 @@ use Rattle.fb_graph.specs.Dual.{cover_of}
 use Rattle.fb_graph.specs.Problem.{Problem, edge_at}
 use Rattle.fb_graph.specs.declared.parts.Edge.{Edge}
 use Rattle.fb_half.specs.Parts.{problem_in}
-use Rattle.fb_obstacles.specs.Obstacles.{IsMeet, grows}
+use Rattle.fb_regions.specs.Paces.{grows}
+use Rattle.fb_obstacles.specs.Obstacles.{IsMeet}
 use Rattle.fb_regions.specs.declared.roles.Role.{Role}
 use Rattle.fb_regions.specs.declared.roles.Role.TheVariants.{Plus, Minus, Out}
 use Rattle.fb_search.specs.InternalGrowing.{GrowingValue, roles_among}

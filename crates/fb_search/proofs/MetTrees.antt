@@ -1,5 +1,5 @@
 -- Trees that have met a matched node may take it in with its mate.
-use Rattle.std.proofs.Common.{ℕ, ◌≡◌, ◌≢◌, ◌*◌, ◌<◌, true, All, List, set, Option, Some, sym, ap, ◌∙◌, subst}
+use Rattle.std.proofs.Common.{ℕ, ◌≡◌, ◌≢◌, ◌*◌, ◌<◌, ◌&&◌, cond, true, All, List, [], ◌∷◌, set, Option, Some, sym, ap, ◌∙◌, subst}
 use Rattle.fb_graph.specs.Parity.{is_in}
 use Rattle.fb_graph.specs.Dual.{is_live, top_at}
 use Rattle.fb_graph.specs.Limits.{IsWithinLimits}
@@ -9,8 +9,9 @@ use Rattle.fb_links.specs.Table as table
 use Rattle.fb_obstacles.specs.InternalWatching.{EntersNode, Watches}
 use Rattle.fb_obstacles.specs.Watched.{Watched}
 use Rattle.fb_regions.specs.Moves.{node_named}
+use Rattle.fb_regions.specs.Paces.{Paced, pace_in}
 use Rattle.fb_trees.specs.Branches.{Grown}
-use Rattle.fb_trees.specs.Forests.{IsOutside, IsPlusNode, IsTreeOf, tree_at}
+use Rattle.fb_trees.specs.Forests.{AreInPace, IsOutside, IsPlusNode, IsTreeOf, role_among, tree_at}
 use Rattle.fb_trees.specs.Rooted.{attached_grown}
 use Rattle.fb_trees.proofs.Names.{plus_in_tree}
 use Rattle.fb_search.specs.declared.growing_meets.Met.{Met}
@@ -20,6 +21,7 @@ use Rattle.fb_search.specs.InternalMeetings.{IsCouple}
 use Rattle.fb_search.specs.InternalTreeMeetings.{HasMetTree}
 use Rattle.fb_search.proofs.AttachedForests.{attached_grows, attached_keeps, link_is_live, taken_is_live, with_grown}
 use Rattle.fb_search.proofs.AttachedSearches.{branch_met}
+use Rattle.fb_search.proofs.PacedMoves.{paced_attached}
 use Rattle.fb_search.proofs.TreeMatches.{couple_apart, couple_in, live_matched, matched_in_none}
 
 module _ (w : GrowingValue) (met : Met) (now : GrowingValue) (h : HasMetTree w met now) (mate : ℕ) (couple : IsCouple met.taken met.other mate) where
@@ -80,3 +82,13 @@ module _ (w : GrowingValue) (met : Met) (now : GrowingValue) (h : HasMetTree w m
 
   pub met_grows : IsWithinLimits (problem_in now.part) → (new : Watched) → GrowsOn w (with_grown tree grown (branch_met met mate) new now)
   met_grows = attached_grows w met now h mate couple tree grown h.plus.at h.plus.plus
+
+  -- and its nodes move as it says
+  pub met_paced : {S : Type 0} (before after : Paced S) → before.nodes ≡ now.part.nodes → AreInPace before now.forest
+      → ((n : ℕ) → pace_in after n
+      ≡ cond (is_in (met.other ∷ mate ∷ []) n && is_live before.nodes n)
+      (role_among (set now.forest tree (Some (attached_grown grown (branch_met met mate)))) n) (pace_in before n))
+      → AreInPace after (set now.forest tree (Some (attached_grown grown (branch_met met mate))))
+  met_paced before after nodes =
+      paced_attached before after now.forest tree grown (branch_met met mate) (ap (λ f. tree_at f tree) same_forest ∙ h.plus.at)
+      (ap (λ ns. is_live ns met.other) nodes ∙ met_entered) (ap (λ ns. is_live ns mate) nodes ∙ met_live)

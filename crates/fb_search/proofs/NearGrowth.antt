@@ -17,7 +17,7 @@ use Rattle.fb_graph.proofs.StepLoads.{load_stepped}
 use Rattle.fb_obstacles.specs.Obstacles.{residue_of}
 use Rattle.fb_trees.specs.Rooted.{bare}
 use Rattle.fb_search.specs.InternalNear.{alone}
-use Rattle.fb_trees.specs.InternalSteps.{IsTreeOver}
+use Rattle.fb_trees.specs.TreesOver.{IsTreeOver}
 use Rattle.fb_trees.proofs.BranchTurns.{all_done, none_yet, root_done, root_may}
 
 -- the load of an edge is at most the potentials of its ends

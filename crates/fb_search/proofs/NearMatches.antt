@@ -24,7 +24,7 @@ use Rattle.fb_half.specs.Matchings.{matched_names}
 use Rattle.fb_half.specs.Parts.{IsPart, PartValue, problem_in}
 use Rattle.fb_obstacles.specs.InternalSingles.{HasRoom}
 use Rattle.fb_search.specs.InternalNear.{IsNearBoundary, alone}
-use Rattle.fb_trees.specs.InternalSteps.{IsTreeOver}
+use Rattle.fb_trees.specs.TreesOver.{IsTreeOver}
 use Rattle.fb_search.specs.InternalTightEdges.{LeadsOut}
 use Rattle.fb_trees.specs.InternalMetWalks.{IsOut, IsOutWalk}
 use Rattle.fb_search.specs.InternalSearching.{stepped_by}

@@ -22,11 +22,11 @@ use Rattle.fb_plan.specs.Scopes.{scope_graph}
 use Rattle.fb_half.specs.Values.{IsScopeOf}
 use Rattle.fb_half.specs.Matchings.{matched_names}
 use Rattle.fb_half.specs.Parts.{IsPart, PartValue, problem_in}
-use Rattle.fb_obstacles.specs.Obstacles.{grows, shrinks}
+use Rattle.fb_regions.specs.Paces.{grows, shrinks}
 use Rattle.fb_regions.specs.declared.roles.Role.TheVariants.{Plus, Minus, Out}
 use Rattle.fb_search.specs.declared.near.NearPair.{NearPair}
 use Rattle.fb_search.specs.InternalNear.{IsNearPair, alone}
-use Rattle.fb_trees.specs.InternalSteps.{IsTreeOver}
+use Rattle.fb_trees.specs.TreesOver.{IsTreeOver}
 use Rattle.fb_search.specs.InternalTightEdges.{Meets}
 use Rattle.fb_trees.specs.InternalMetWalks.{IsBetween, IsMetWalk}
 use Rattle.fb_search.specs.InternalSearching.{stepped_by}

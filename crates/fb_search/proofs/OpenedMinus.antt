@@ -10,7 +10,8 @@ use Rattle.fb_laws.specs.OpenedCycles.{opened_tree}
 use Rattle.fb_laws.specs.Trees.{EntryOf, minus_names}
 use Rattle.fb_links.specs.declared.cycle.CycleStep.{CycleStep}
 use Rattle.fb_regions.specs.Moves.{node_named}
-use Rattle.fb_obstacles.specs.Obstacles.{AreMinusBounded, shrinks}
+use Rattle.fb_regions.specs.Paces.{shrinks}
+use Rattle.fb_obstacles.specs.Obstacles.{AreMinusBounded}
 use Rattle.fb_obstacles.specs.Watched.{Watched, has_bound}
 use Rattle.fb_obstacles.proofs.NodeLooks.{named_only}
 use Rattle.fb_trees.specs.Branches.{Grown}

@@ -4,7 +4,7 @@ use Rattle.std.proofs.lemmas.Bool.{both_ways, false_from_ne_true}
 use Rattle.fb_graph.specs.Parity.{is_in}
 use Rattle.fb_graph.specs.Steps.{AreExclusive}
 use Rattle.fb_laws.specs.Trees.{minus_names}
-use Rattle.fb_obstacles.specs.Obstacles.{shrinks}
+use Rattle.fb_regions.specs.Paces.{shrinks}
 use Rattle.fb_trees.specs.Branches.{Grown}
 use Rattle.fb_trees.specs.Forests.{all_minus, all_plus, all_roles, role_among, tree_at, trees_in}
 use Rattle.fb_trees.specs.Replacements.{joined_grown}

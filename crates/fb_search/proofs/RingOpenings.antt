@@ -51,7 +51,8 @@ use Rattle.fb_trees.specs.Rooted.{is_node}
 use Rattle.fb_trees.proofs.ForestsCounted.{as_many}
 use Rattle.fb_trees.proofs.Mapped.{names_moved, opened_moved}
 use Rattle.fb_trees.proofs.Names.{minus_in_names}
-use Rattle.fb_obstacles.specs.Obstacles.{IsWatched, grows, shrinks, slack_at}
+use Rattle.fb_regions.specs.Paces.{grows, shrinks}
+use Rattle.fb_obstacles.specs.Obstacles.{IsWatched, slack_at}
 use Rattle.fb_obstacles.specs.Watched.{AreBounded, Watched}
 use Rattle.fb_search.specs.InternalEndings.{beside_match}
 use Rattle.fb_search.specs.InternalGrowing.{GrowingValue, IsGrowing, all_along, forest_state_at, grown_ids, roles_among, tree_by, waiting_in}

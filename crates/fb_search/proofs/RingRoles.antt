@@ -7,7 +7,7 @@ use Rattle.fb_graph.proofs.Floods.{is_in-both, is_in-left, is_in-right}
 use Rattle.fb_regions.specs.declared.roles.Role.TheVariants.{Minus}
 use Rattle.fb_laws.specs.LinkNumbers.{tree_links}
 use Rattle.fb_laws.specs.Trees.{minus_names, plus_names, tree_names}
-use Rattle.fb_obstacles.specs.Obstacles.{grows, shrinks}
+use Rattle.fb_regions.specs.Paces.{grows, shrinks}
 use Rattle.fb_trees.specs.Branches.{Grown}
 use Rattle.fb_trees.specs.Forests.{IsMinusNode, all_minus, all_plus, role_among, tree_at, trees_in}
 use Rattle.fb_trees.specs.Replacements as replacements

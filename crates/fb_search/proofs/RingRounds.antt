@@ -14,7 +14,8 @@ use Rattle.fb_links.specs.Walks.{joined_walk}
 use Rattle.fb_half.specs.Matchings.{match_links}
 use Rattle.fb_half.specs.Parts.{kept_links, problem_in}
 use Rattle.fb_half.specs.Translations.{link_by, link_of}
-use Rattle.fb_obstacles.specs.Obstacles.{IsZeroDefect, shrinks}
+use Rattle.fb_regions.specs.Paces.{shrinks}
+use Rattle.fb_obstacles.specs.Obstacles.{IsZeroDefect}
 use Rattle.fb_trees.specs.Branches.{Grown}
 use Rattle.fb_trees.specs.Forests.{IsMinusNode, IsTreeOf, role_among, tree_at, trees_in}
 use Rattle.fb_trees.specs.Rooted.{IsBranchAt}

@@ -3,7 +3,7 @@ use Rattle.std.proofs.Common.{ℕ, ◌≡◌, Bool, true, false, List, Option, r
 use Rattle.std.proofs.lemmas.Bool.{false≢true}
 use Rattle.fb_graph.specs.Parity.{is_in}
 use Rattle.fb_regions.specs.declared.roles.Role.TheVariants.{Plus, Minus, Out}
-use Rattle.fb_obstacles.specs.Obstacles.{grows, shrinks}
+use Rattle.fb_regions.specs.Paces.{grows, shrinks}
 use Rattle.fb_trees.specs.Branches.{Grown}
 use Rattle.fb_trees.specs.Forests.{all_minus, all_plus, role_among, trees_in}
 

@@ -1,11 +1,11 @@
 -- The roles that a tree gives.
-use Rattle.std.proofs.Common.{ℕ, ◌≡◌, Bool, true, false, refl, ap, ◌∙◌, if◌then◌else◌}
+use Rattle.std.proofs.Common.{ℕ, ◌≡◌, Bool, true, false, refl, if◌then◌else◌}
 use Rattle.std.proofs.lemmas.Bool.{false≢true}
 use Rattle.fb_graph.specs.Parity.{is_in}
 use Rattle.fb_regions.specs.declared.roles.Role.{Role}
 use Rattle.fb_regions.specs.declared.roles.Role.TheVariants.{Plus, Minus, Out}
 use Rattle.fb_laws.specs.Trees.{minus_names, plus_names}
-use Rattle.fb_obstacles.specs.Obstacles.{grows, shrinks}
+use Rattle.fb_regions.specs.Paces.{grows, shrinks}
 use Rattle.fb_trees.specs.Branches.{Grown}
 use Rattle.fb_trees.specs.Rooted.{role_in}
 

@@ -1,5 +1,5 @@
 -- The roles of a search's nodes, and what is so of the nodes of its tree.
-use Rattle.std.proofs.Common.{Some, ℕ, ◌≡◌, ◌==◌, Bool, true, false, List, [], ◌∷◌, map, refl, sym, ap, ◌∙◌, subst, if◌then◌else◌}
+use Rattle.std.proofs.Common.{ℕ, ◌≡◌, ◌==◌, Bool, true, false, List, [], ◌∷◌, map, refl, sym, ap, ◌∙◌, subst, if◌then◌else◌}
 use Rattle.std.proofs.lemmas.Bool.{both_ways, eq-eqb, false_from_ne_true}
 use Rattle.fb_graph.specs.Parity.{is_in}
 use Rattle.fb_graph.specs.Certificate.{AreDistinct}
@@ -22,9 +22,9 @@ use Rattle.fb_regions.specs.declared.roles.Role.TheVariants.{Plus, Minus, Out}
 use Rattle.fb_trees.proofs.Mapped as mapped
 use Rattle.fb_half.specs.Translations.{entry_by, link_by}
 use Rattle.fb_half.specs.Parts.{shot_of}
-use Rattle.fb_obstacles.specs.Obstacles.{grows, shrinks}
+use Rattle.fb_regions.specs.Paces.{grows, shrinks}
 use Rattle.fb_search.specs.InternalSearching.{IsSearching, SearchValue, problem_of, roles_in, state_at}
-use Rattle.fb_trees.specs.InternalSteps.{IsTreeOver}
+use Rattle.fb_trees.specs.TreesOver.{IsTreeOver}
 use Rattle.fb_search.proofs.Runs.{tree_roles}
 
 -- the tree with its links in the place of their numbers

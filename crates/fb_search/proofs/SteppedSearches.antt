@@ -24,7 +24,7 @@ use Rattle.fb_half.specs.Translations.{link_by}
 use Rattle.fb_obstacles.specs.Obstacles.{AreMinusBounded, IsWatched, slack_at}
 use Rattle.fb_obstacles.specs.Watched.{AreBounded}
 use Rattle.fb_plan.specs.Plans.{PlanTree, problem_at}
-use Rattle.fb_trees.specs.InternalSteps.{IsTreeOver}
+use Rattle.fb_trees.specs.TreesOver.{IsTreeOver}
 use Rattle.fb_search.specs.InternalGrowth.{lowered_by}
 use Rattle.fb_search.specs.InternalSearching.{stepped_by}
 use Rattle.fb_search.specs.InternalSearching.{IsSearching, SearchValue, problem_of, roles_in, state_at}

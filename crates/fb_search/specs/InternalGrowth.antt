@@ -5,7 +5,6 @@ use Rattle.fb_graph.specs.Steps.{stepped_nodes}
 use Rattle.fb_laws.specs.Measures.{IsLower}
 use Rattle.fb_laws.specs.SearchLayers.{left_to_do}
 use Rattle.fb_half.specs.Parts.{PartValue, problem_in}
-use Rattle.fb_half.specs.Values.{HasScope}
 use Rattle.fb_obstacles.specs.declared.obstacle.Obstacle.{Obstacle}
 use Rattle.fb_obstacles.specs.InternalWatching.{lowered_bounds}
 use Rattle.fb_obstacles.specs.Obstacles.{Obstructs}
@@ -13,6 +12,7 @@ use Rattle.fb_obstacles.specs.Watched.{Watched}
 use Rattle.fb_trees.specs.Forests.{all_roles, bare_trees, trees_in}
 use Rattle.fb_search.specs.declared.growing.GrowingPieces.{GrowingPieces}
 use Rattle.fb_search.specs.InternalGrowing.{GrowingValue, IsGrowing, growing_of, roles_among, waiting_in}
+use Rattle.fb_search.specs.InternalPaces.{ArePaced}
 use Rattle.fb_search.specs.Progress.{AreKept, IsSamePart}
 
 -- what is still to do: the unmatched nodes, then what one tree would have to do in the roles of all; the last part is
@@ -73,6 +73,6 @@ Blocks w o = Obstructs (problem_in w.part) (roles_among w.forest) w.part.nodes o
 
 -- They are growing trees again, of which the obstacle is removed.
 pub record AreGrowing (before : GrowingValue) (after : GrowingPieces) : Type 0 where
-  pub scope : HasScope after.parts
+  pub paced : ArePaced after.parts after.forest
   pub keeps : IsGrowing (growing_of after)
   pub grows_on : GrowsOn before (growing_of after)

@@ -1,6 +1,5 @@
 -- The match of a node that a tree has met.
-use Rattle.std.specs.Prelude.{ℕ, ◌≡◌, ◌⊎◌, List, ◌∷◌, Option, Some, None}
-use Rattle.std.specs.List.Sorted.{IsPermutation}
+use Rattle.std.specs.Prelude.{ℕ, ◌≡◌, ◌⊎◌, Some, None}
 use Rattle.fb_half.specs.declared.matches.Match.{Match}
 
 -- the match is that of these two nodes

@@ -1,5 +1,5 @@
 -- A search of one tree, as lemmas see it: those on defects that are matched at once, and those on one tree among several.
-use Rattle.std.specs.Prelude.{ℕ, ◌≡◌, ◌<◌, List, [], ◌++◌, map, length, Option}
+use Rattle.std.specs.Prelude.{ℕ, ◌≡◌, ◌<◌, List, [], ◌++◌, map, length}
 use Rattle.fb_graph.specs.Problem.{Problem}
 use Rattle.fb_graph.specs.Steps.{Roles, stepped_nodes}
 use Rattle.fb_plan.specs.Plans.{node_count}

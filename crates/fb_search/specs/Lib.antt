@@ -9,6 +9,7 @@ pub mod InternalMatched
 pub mod InternalMeetings
 pub mod InternalNear
 pub mod InternalOpenings
+pub mod InternalPaces
 pub mod InternalPieces
 pub mod InternalSearching
 pub mod InternalTightEdges

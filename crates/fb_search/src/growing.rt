@@ -4,8 +4,9 @@ use fb_trees::Forest;
 use std::marker::Model;
 
 /// Trees that grow together, one from each of some unmatched nodes (Edmonds 1965): the pieces of the half-solved part that
-/// they work on, the trees, and the edges that they look at. Other unmatched nodes wait. A step that may take memory takes them by value and returns
-/// them, so that nothing half done is left if memory runs out. Any other step changes them in place.
+/// they work on, the trees, and the edges that they look at. The nodes of the part move as the trees say. Other unmatched
+/// nodes wait. A step that may take memory takes them by value and returns them, so that nothing half done is left if memory
+/// runs out. Any other step changes them in place.
 #[derive(Drop)]
 pub(crate) struct Growing<'a> {
     pub(crate) parts: Parts<'a>,
@@ -22,14 +23,15 @@ pub(crate) struct GrowingPieces<'a> {
 }
 
 impl<'a> Model for Growing<'a> {
-    ghost use Rattle.fb_half.specs.Values.{HasScope, part_of};
+    ghost use Rattle.fb_half.specs.Values.{part_of};
     ghost use Rattle.fb_search.specs.InternalGrowing.{GrowingValue, IsGrowing};
+    ghost use Rattle.fb_search.specs.InternalPaces.{ArePaced};
 
     ghost Value = { GrowingValue };
 
     ghost view = { λ s. record { part = part_of s.parts; forest = s.forest; watched = s.watch } };
 
-    ghost invariant = { λ s. HasScope s.parts × IsGrowing (record { part = part_of s.parts; forest = s.forest; watched = s.watch }) };
+    ghost invariant = { λ s. ArePaced s.parts s.forest × IsGrowing (record { part = part_of s.parts; forest = s.forest; watched = s.watch }) };
 }
 
 impl<'a> Growing<'a> {

@@ -14,11 +14,11 @@ use fb_graph::Scope;
 use fb_half::Work;
 use fb_obstacles::{Watch, watch_node};
 use fb_regions::{NodeId, Regions};
-use fb_trees::Forest;
+use fb_trees::{Forest, set_paces};
 
 impl<'a> Growing<'a> {
-    /// The trees of the forest, each an unmatched node of the part alone: the roots, in this order. Of all edges those at the
-    /// roots are watched. The other unmatched nodes wait.
+    /// The trees of the forest, each an unmatched node of the part alone: the roots, in this order, which grow from now on. Of
+    /// all edges those at the roots are watched. The other unmatched nodes wait.
     pub(crate) fn begin(
         work: Work<'a>,
         roots: &[NodeId],
@@ -34,11 +34,12 @@ impl<'a> Growing<'a> {
         work.keeps();
         let mut watch = watch;
         watch.clear();
-        let parts = work.into_parts();
+        let mut parts = work.into_parts();
         let scope = *parts.regions.scope();
         scope.limits();
         watch_nodes(&mut watch, &parts.regions, roots);
         watch.keeps();
+        set_paces(&mut parts.regions, &forest, roots);
         Growing {
             parts,
             forest,

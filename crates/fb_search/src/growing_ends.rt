@@ -7,11 +7,11 @@ ghost use Rattle.fb_laws.specs.LinkNumbers.{links_dropped};
 ghost use Rattle.fb_laws.specs.Trees.{minus_names};
 ghost use Rattle.fb_trees.specs.Branches.{Grown};
 ghost use Rattle.fb_trees.specs.Forests.{IsPlusNode, IsTreeOf, trees_in};
-ghost use Rattle.fb_half.specs.Values.{HasScope};
 ghost use Rattle.fb_obstacles.specs.declared.obstacle.Obstacle.TheVariants.{Boundary};
 ghost use Rattle.fb_search.specs.InternalEndings.{ended_matches};
 ghost use Rattle.fb_search.specs.InternalGrowing.{GrowingValue, IsGrowing, growing_of};
 ghost use Rattle.fb_search.specs.InternalGrowth.{AreGrowing, Blocks, GrowsOn};
+ghost use Rattle.fb_search.specs.InternalPaces.{ArePaced};
 ghost use Rattle.fb_search.specs.InternalMeetings.{IsBoundaryMatch};
 ghost use Rattle.fb_search.specs.InternalTreeMeetings.{GrowsOut, HasMetTree, MeetsOutside};
 ghost use Rattle.fb_search.specs.InternalGrowingEnds.{IsTreeMatched, MayMatchTree, WatchesEach};
@@ -25,7 +25,7 @@ use fb_half::{Match, Matching, Work, far_owner};
 use fb_links::Links;
 use fb_obstacles::{Watch, watch_node};
 use fb_regions::{NodeId, Regions};
-use fb_trees::{Branch, Forest, link_between, link_out};
+use fb_trees::{Branch, Forest, link_between, link_out, rest_tree};
 use std::alloc::Global;
 
 impl<'a> Growing<'a> {
@@ -84,7 +84,7 @@ fn end_over(
     edge: u32,
     plus: NodeId,
 ) -> Result<(), NoMemory>
-    requires scope { HasScope pieces.old.parts }
+    requires paced { ArePaced pieces.old.parts pieces.old.forest }
     requires growing { IsGrowing (growing_of pieces.old) }
     requires leads { GrowsOut (growing_of pieces.old) edge plus }
     ensures { OnOk result (AreGrowing (growing_of pieces.old) pieces.new) }
@@ -101,6 +101,7 @@ fn end_over(
     parts.seams.list(alloc, owner, plus)?;
     watch_tree(watch, &parts.regions, forest, plus);
     watch.keeps();
+    rest_tree(&mut parts.regions, forest, plus);
     match_tree(alloc, &mut parts.matching, &mut parts.links, forest, plus)?;
     let out = Match {
         link,
@@ -120,7 +121,7 @@ pub(crate) fn match_waiting(
     plus: NodeId,
     other: NodeId,
 ) -> Result<(), NoMemory>
-    requires scope { HasScope pieces.old.parts }
+    requires paced { ArePaced pieces.old.parts pieces.old.forest }
     requires growing { IsGrowing (growing_of pieces.old) }
     requires meets { MeetsOutside (growing_of pieces.old) edge plus other }
     requires waits { is_in pieces.old.parts.matching.unmatched other ≡ true }
@@ -136,6 +137,7 @@ pub(crate) fn match_waiting(
     let link = link_between(alloc, &parts.regions, &mut parts.links, edge)?;
     watch_tree(watch, &parts.regions, forest, plus);
     watch.keeps();
+    rest_tree(&mut parts.regions, forest, plus);
     match_tree(alloc, &mut parts.matching, &mut parts.links, forest, plus)?;
     parts.matching.take_unmatched(other);
     let over = Match {
@@ -153,7 +155,7 @@ pub(crate) fn release(
     pieces: &mut GrowingPieces<'_>,
     met: Met,
 ) -> Result<(), NoMemory>
-    requires scope { HasScope pieces.old.parts }
+    requires paced { ArePaced pieces.old.parts pieces.old.forest }
     requires met { (w : GrowingValue) × HasMetTree w met (growing_of pieces.old) }
     requires boundary { IsBoundaryMatch met.taken met.other }
     ensures { OnOk result ((w : GrowingValue) → HasMetTree w met (growing_of pieces.old) → AreGrowing w pieces.new) }
@@ -167,6 +169,7 @@ pub(crate) fn release(
     parts.links.forget(met.taken.link);
     watch_tree(watch, &parts.regions, forest, met.plus);
     watch.keeps();
+    rest_tree(&mut parts.regions, forest, met.plus);
     match_tree(
         alloc,
         &mut parts.matching,

@@ -3,10 +3,10 @@
 ghost use Rattle.std.specs.Prelude.{ℕ, ◌≡◌, true, IfOk, MatchOption, OnOk};
 ghost use Rattle.fb_graph.specs.Parity.{is_in};
 ghost use Rattle.fb_half.specs.Matchings.{matched_names, names_of};
-ghost use Rattle.fb_half.specs.Values.{HasScope};
 ghost use Rattle.fb_obstacles.specs.declared.obstacle.Obstacle.TheVariants.{Meet};
 ghost use Rattle.fb_search.specs.InternalGrowing.{GrowingValue, IsGrowing, growing_of};
 ghost use Rattle.fb_search.specs.InternalGrowth.{AreGrowing, Blocks, GrowsOn};
+ghost use Rattle.fb_search.specs.InternalPaces.{ArePaced};
 ghost use Rattle.fb_search.specs.InternalMeetings.{IsBoundaryMatch, IsCouple};
 ghost use Rattle.fb_search.specs.InternalTreeMeetings.{HasMetTree, MeetsOutside};
 
@@ -17,7 +17,7 @@ use fb_graph::{NoMemory, Scope};
 use fb_half::{Match, Standing};
 use fb_obstacles::{enter_minus, watch_node};
 use fb_regions::NodeId;
-use fb_trees::{CycleStep, LinkId, link_between};
+use fb_trees::{CycleStep, LinkId, link_between, set_paces};
 use std::alloc::Global;
 
 /// A link that is made from a plus node to a matched one, whose match is taken out.
@@ -64,7 +64,7 @@ fn meet_over(
     plus: NodeId,
     other: NodeId,
 ) -> Result<(), NoMemory>
-    requires scope { HasScope pieces.old.parts }
+    requires paced { ArePaced pieces.old.parts pieces.old.forest }
     requires growing { IsGrowing (growing_of pieces.old) }
     requires meets { MeetsOutside (growing_of pieces.old) edge plus other }
     requires matched { is_in (matched_names pieces.old.parts.matching.matches) other ≡ true }
@@ -76,7 +76,7 @@ fn meet_over(
 
 /// The node to which the link was made joins the tree with its mate, or the tree ends with the node matched again.
 fn meet_linked(alloc: Global, pieces: &mut GrowingPieces<'_>, met: Met) -> Result<(), NoMemory>
-    requires scope { HasScope pieces.old.parts }
+    requires paced { ArePaced pieces.old.parts pieces.old.forest }
     requires met { (w : GrowingValue) × HasMetTree w met (growing_of pieces.old) }
     requires name { is_in (names_of met.taken) met.other ≡ true }
     ensures { OnOk result ((w : GrowingValue) → HasMetTree w met (growing_of pieces.old) → AreGrowing w pieces.new) }
@@ -106,11 +106,11 @@ fn link_outside(
     plus: NodeId,
     other: NodeId,
 ) -> Result<Met, NoMemory>
-    requires scope { HasScope pieces.old.parts }
+    requires paced { ArePaced pieces.old.parts pieces.old.forest }
     requires growing { IsGrowing (growing_of pieces.old) }
     requires meets { MeetsOutside (growing_of pieces.old) edge plus other }
     requires matched { is_in (matched_names pieces.old.parts.matching.matches) other ≡ true }
-    ensures scope { OnOk result (HasScope pieces.new.parts) }
+    ensures paced { OnOk result (ArePaced pieces.new.parts pieces.new.forest) }
     ensures met { IfOk result (λ met. HasMetTree (growing_of pieces.old) met (growing_of pieces.new)) }
     ensures name { IfOk result (λ met. is_in (names_of met.taken) met.other ≡ true) }
 {
@@ -132,7 +132,7 @@ fn take_couple(
     met: Met,
     mate: NodeId,
 ) -> Result<(), NoMemory>
-    requires scope { HasScope pieces.old.parts }
+    requires paced { ArePaced pieces.old.parts pieces.old.forest }
     requires met { (w : GrowingValue) × HasMetTree w met (growing_of pieces.old) }
     requires couple { IsCouple met.taken met.other mate }
     ensures { OnOk result ((w : GrowingValue) → HasMetTree w met (growing_of pieces.old) → AreGrowing w pieces.new) }
@@ -142,15 +142,16 @@ fn take_couple(
         forest,
         watch,
     } = pieces;
-    let scope = parts.regions.scope();
+    let scope = *parts.regions.scope();
     scope.limits();
     let matched = CycleStep {
         node: mate,
         link: met.taken.link,
     };
     forest.attach(alloc, met.plus, met.link, met.other, matched, &parts.links)?;
+    set_paces(&mut parts.regions, forest, &[met.other, mate]);
     enter_minus(watch, &parts.regions, met.other)?;
-    watch_node(watch, scope, &parts.regions, mate);
+    watch_node(watch, &scope, &parts.regions, mate);
     watch.keeps();
     Ok(())
 }

@@ -2,11 +2,11 @@
 //! with each other and dissolved.
 
 ghost use Rattle.std.specs.Prelude.{◌≡◌, true, false, IfOk, OnOk};
-ghost use Rattle.fb_half.specs.Values.{HasScope};
 ghost use Rattle.fb_obstacles.specs.declared.obstacle.Obstacle.TheVariants.{PlusPair};
 ghost use Rattle.fb_trees.specs.Forests.{ArePlusTogether, IsPlusNode};
 ghost use Rattle.fb_search.specs.InternalGrowing.{IsGrowing, growing_of};
 ghost use Rattle.fb_search.specs.InternalGrowth.{AreGrowing, Blocks, GrowsOn};
+ghost use Rattle.fb_search.specs.InternalPaces.{ArePaced};
 ghost use Rattle.fb_search.specs.InternalTreeMeetings.{IsGrowingPair};
 
 use crate::growing::{Growing, GrowingPieces};
@@ -17,7 +17,7 @@ use crate::growing_turns::over_ends;
 use fb_graph::NoMemory;
 use fb_half::Match;
 use fb_regions::NodeId;
-use fb_trees::link_between;
+use fb_trees::{link_between, rest_tree};
 use std::alloc::Global;
 
 impl<'a> Growing<'a> {
@@ -80,7 +80,7 @@ fn match_trees(
     first: NodeId,
     second: NodeId,
 ) -> Result<(), NoMemory>
-    requires scope { HasScope pieces.old.parts }
+    requires paced { ArePaced pieces.old.parts pieces.old.forest }
     requires growing { IsGrowing (growing_of pieces.old) }
     requires pair { IsGrowingPair (growing_of pieces.old) edge first second }
     requires apart { ArePlusTogether pieces.old.forest first second → ⊥ }
@@ -96,6 +96,8 @@ fn match_trees(
     watch_tree(watch, &parts.regions, forest, first);
     watch_tree(watch, &parts.regions, forest, second);
     watch.keeps();
+    rest_tree(&mut parts.regions, forest, first);
+    rest_tree(&mut parts.regions, forest, second);
     match_tree(alloc, &mut parts.matching, &mut parts.links, forest, first)?;
     match_tree(alloc, &mut parts.matching, &mut parts.links, forest, second)?;
     let over = Match {

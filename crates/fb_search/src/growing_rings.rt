@@ -5,13 +5,13 @@ ghost use Rattle.fb_graph.specs.Parity.{is_in};
 ghost use Rattle.fb_graph.specs.Dual.{is_live};
 ghost use Rattle.fb_half.specs.Matchings.{listed_names};
 ghost use Rattle.fb_half.specs.Parts.{problem_in};
-ghost use Rattle.fb_half.specs.Values.{HasScope};
 ghost use Rattle.fb_obstacles.specs.declared.obstacle.Obstacle.TheVariants.{ZeroMinus};
 ghost use Rattle.fb_search.specs.InternalClosings.{IsReplacedBy, WatchesMinusBy};
 ghost use Rattle.fb_search.specs.InternalGrowing.{IsGrowing, growing_of};
 ghost use Rattle.fb_search.specs.InternalTreeMeetings.{IsGrowingPair};
 ghost use Rattle.fb_search.specs.InternalGrowingRings.{ClosesIn, IsClosedIn};
 ghost use Rattle.fb_search.specs.InternalGrowth.{AreGrowing, Blocks, GrowsOn};
+ghost use Rattle.fb_search.specs.InternalPaces.{ArePaced};
 ghost use Rattle.fb_trees.specs.Branches.{Grown};
 ghost use Rattle.fb_trees.specs.Forests.{ArePlusTogether, IsInside, IsTreeOf, role_among, tree_at};
 
@@ -21,7 +21,7 @@ use fb_graph::{NoMemory, Scope};
 use fb_half::Matching;
 use fb_obstacles::{Watch, watch_node};
 use fb_regions::{NodeId, Regions, Role};
-use fb_trees::{CycleStep, Forest, LinkId, TreeId, link_between};
+use fb_trees::{CycleStep, Forest, LinkId, TreeId, link_between, set_paces};
 use std::alloc::Global;
 
 impl<'a> Growing<'a> {
@@ -55,7 +55,7 @@ pub(crate) fn close(
     first: NodeId,
     second: NodeId,
 ) -> Result<(), NoMemory>
-    requires scope { HasScope pieces.old.parts }
+    requires paced { ArePaced pieces.old.parts pieces.old.forest }
     requires growing { IsGrowing (growing_of pieces.old) }
     requires pair { IsGrowingPair (growing_of pieces.old) edge first second }
     requires together { ArePlusTogether pieces.old.forest first second }
@@ -68,7 +68,7 @@ pub(crate) fn close(
 
 /// Joins both links of the minus node, and makes the cycle that the new link closes a blossom.
 fn round_node(alloc: Global, pieces: &mut GrowingPieces<'_>, node: NodeId) -> Result<(), NoMemory>
-    requires scope { HasScope pieces.old.parts }
+    requires paced { ArePaced pieces.old.parts pieces.old.forest }
     requires growing { IsGrowing (growing_of pieces.old) }
     requires zero { Blocks (growing_of pieces.old) (ZeroMinus node) }
     ensures { OnOk result (AreGrowing (growing_of pieces.old) pieces.new) }
@@ -87,7 +87,7 @@ fn join_cycle(
     second: NodeId,
     closing: LinkId,
 ) -> Result<(), NoMemory>
-    requires scope { HasScope pieces.old.parts }
+    requires paced { ArePaced pieces.old.parts pieces.old.forest }
     requires closes { ClosesIn (growing_of pieces.old) first second closing }
     ensures { OnOk result (AreGrowing (growing_of pieces.old) pieces.new) }
 {
@@ -105,7 +105,7 @@ fn join_steps(
     cycle: Vec<CycleStep>,
     nodes: &[NodeId],
 ) -> Result<(), NoMemory>
-    requires scope { HasScope pieces.old.parts }
+    requires paced { ArePaced pieces.old.parts pieces.old.forest }
     requires cycle { IsClosedIn (growing_of pieces.old) closing cycle.items }
     requires nodes { nodes.now ≡ map (λ s. s.node) cycle.items }
     ensures { OnOk result (AreGrowing (growing_of pieces.old) pieces.new) }
@@ -128,11 +128,13 @@ fn join_steps(
         link: closing,
     };
     forest.replace(alloc, nodes, &[step], &parts.links)?;
+    set_paces(&mut parts.regions, forest, nodes);
+    set_paces(&mut parts.regions, forest, &[blossom]);
     replace_unmatched(alloc, &mut parts.matching, root, root_of(forest, tree))
 }
 
 /// The nodes of the steps.
-fn nodes_on(alloc: Global, steps: &[CycleStep]) -> Result<Vec<NodeId>, NoMemory>
+pub(crate) fn nodes_on(alloc: Global, steps: &[CycleStep]) -> Result<Vec<NodeId>, NoMemory>
     ensures { IfOk result (λ nodes. nodes.items ≡ map (λ s. s.node) steps.now) }
 {
     steps.iter().map(|step| step.node).collect(alloc)

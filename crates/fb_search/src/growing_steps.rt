@@ -15,8 +15,8 @@ use fb_regions::NodeId;
 use fb_trees::grow_all;
 
 impl Growing<'_> {
-    /// Each minus node of all trees shrinks by this much, and then each plus node grows by it. The bounds fall by twice as
-    /// much: the slack of an edge falls by at most that.
+    /// Each minus node of all trees shrinks by this much, and each plus node grows by it. The bounds fall by twice as much:
+    /// the slack of an edge falls by at most that.
     pub(crate) fn step(&mut self, by: u64)
         requires some { 1 ≤ length (trees_in self.old.forest) }
         requires may { MayStep (problem_in self.old.part) (roles_among self.old.forest) self.old.part.nodes by }

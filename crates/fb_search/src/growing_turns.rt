@@ -36,20 +36,16 @@ impl Growing<'_> {
         self.watch.make_room()
     }
 
-    /// The obstacle in the trees' way, or how far they may step. Raises the bounds of the edges that it looks at, and no
-    /// longer watches those that it finds inside one outer node.
+    /// The obstacle in the trees' way, or how far they may step; the regions tell how each node moves. Raises the bounds of the
+    /// edges that it looks at, and no longer watches those that it finds inside one outer node.
     pub(crate) fn next<L: Ledger>(&mut self, looks: &mut Steps<L>) -> Obstacle
         requires some { 1 ≤ length (trees_in self.old.forest) }
         ensures obstacle { IsObstacle (problem_in self.new.part) (roles_among self.new.forest) self.new.part.nodes result }
         ensures same { IsGrowthRewatched self.old self.new }
     {
-        let Growing {
-            parts,
-            forest,
-            watch,
-        } = self;
+        let Growing { parts, watch, .. } = self;
         let scope = *parts.regions.scope();
-        next_obstacle(watch, &scope, &parts.regions, forest, looks)
+        next_obstacle(watch, &scope, &parts.regions, &parts.regions, looks)
     }
 
     /// The obstacle in the trees' way. Where none is, all trees make their greatest free step first, up to the next one.
@@ -93,11 +89,12 @@ impl Growing<'_> {
         ensures { IfSome result (Blocks self.now) }
     {
         let edge = self.watch.limiting()?;
+        let scope = *self.parts.regions.scope();
         obstacle_at(
             edge,
-            self.parts.regions.scope(),
+            &scope,
             &self.parts.regions,
-            &self.forest,
+            &self.parts.regions,
             looks,
         )
     }

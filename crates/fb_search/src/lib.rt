@@ -1,5 +1,5 @@
-//! The search that matches an unmatched node of a half-solved part (Edmonds 1965): an alternating tree grows from it over
-//! the dual state, until the root is matched.
+//! The search that matches the unmatched nodes of a half-solved part (Edmonds 1965): single defects at once where an edge
+//! allows it, the others by alternating trees that grow together over the dual state, until each root is matched.
 
 #![tactic(auto)]
 

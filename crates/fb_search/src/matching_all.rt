@@ -1,14 +1,11 @@
 //! All unmatched nodes of a part matched: those that can be at once, and then the others by trees.
 
-ghost use Rattle.std.specs.Prelude.{◌≡◌, ◌+◌, ◌*◌, ◌≤◌, [], true, All, IfOk, OnOk, length};
-ghost use Rattle.fb_graph.specs.Certificate.{AreDistinct};
-ghost use Rattle.fb_graph.specs.Parity.{is_in};
+ghost use Rattle.std.specs.Prelude.{◌≡◌, ◌+◌, ◌*◌, ◌≤◌, [], IfOk, OnOk, length};
 ghost use Rattle.fb_half.specs.Parts.{IsPart, problem_in};
 ghost use Rattle.fb_half.specs.Values.{HasScope, part_of};
 ghost use Rattle.fb_search.specs.InternalMatched.{HasMatched};
 ghost use Rattle.fb_search.specs.Progress.{IsSamePart};
 
-use crate::growing_all::grow_from;
 use crate::near_ends::match_near;
 use crate::scratch::Scratch;
 use crate::searches::{search_all_from, search_from};
@@ -18,9 +15,6 @@ use fb_half::{Parts, Standing, Work};
 use fb_regions::NodeId;
 use std::alloc::Global;
 use std::sync::ledger::Ledger;
-
-/// At most this many trees grow together: a step of them costs time for each.
-const MANY: usize = 500;
 
 /// Matches all unmatched nodes of the part. Each of the roots that is still unmatched in its turn is matched at once, if it
 /// is a single defect and one of its edges leads to the boundary or to another single defect and may become tight. Then
@@ -45,7 +39,6 @@ pub fn match_all_from<'a, L: Ledger>(
         return Ok((work, scratch));
     }
     let (work, scratch) = match_nearest(alloc, work, roots, scratch, steps)?;
-    let (work, scratch) = match_batches(alloc, work, scratch, steps)?;
     match work.unmatched() {
         [] => Ok((work, scratch)),
         [root] => {
@@ -102,55 +95,4 @@ fn match_each_near<L: Ledger>(
         }
     }
     Ok(())
-}
-
-/// Where more than `MANY` nodes are unmatched, trees grow from at most `MANY` of them at a time while the others wait, until no
-/// more are left.
-fn match_batches<'a, L: Ledger>(
-    alloc: Global,
-    work: Work<'a>,
-    scratch: Scratch,
-    steps: &mut Steps<L>,
-) -> Result<(Work<'a>, Scratch), NoMemory>
-    requires room { scratch.edge_count ≡ length (problem_in work).edges }
-    ensures matched { IfOk result (λ r. HasMatched work.entry steps.old steps.new r.0) }
-    ensures room { IfOk result (λ r. r.1.edge_count ≡ scratch.edge_count) }
-    ensures never_falls { steps.old ≤ steps.new }
-{
-    if work.unmatched().len() <= MANY {
-        return Ok((work, scratch));
-    }
-    work.keeps();
-    let roots = Vec::from_slice(alloc, work.unmatched())?;
-    let mut work = work;
-    let mut scratch = scratch;
-    let mut at = 0;
-    while at < roots.len() && work.unmatched().len() > MANY {
-        let end = roots.len().min(at + MANY);
-        let batch = still_unmatched(alloc, &work, &roots[at..end])?;
-        let (next, lent) = grow_from(alloc, work, &batch, scratch, steps)?;
-        work = next;
-        scratch = lent;
-        at = end;
-    }
-    Ok((work, scratch))
-}
-
-/// Those of the nodes that are unmatched.
-fn still_unmatched(
-    alloc: Global,
-    work: &Work<'_>,
-    nodes: &[NodeId],
-) -> Result<Vec<NodeId>, NoMemory>
-    requires { AreDistinct nodes.now }
-    ensures distinct { IfOk result (λ left. AreDistinct left.items) }
-    ensures unmatched { IfOk result (λ left. All (λ n. is_in work.now.matching.unmatched n ≡ true) left.items) }
-{
-    let mut left = Vec::new(alloc);
-    for node in nodes {
-        if let Standing::Unmatched(_) = work.matching().standing(*node) {
-            left.push(*node)?;
-        }
-    }
-    Ok(left)
 }

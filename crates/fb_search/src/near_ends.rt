@@ -8,7 +8,7 @@ ghost use Rattle.fb_half.specs.Values.{HasScope, part_of};
 ghost use Rattle.fb_trees.specs.Rooted.{bare};
 ghost use Rattle.fb_search.specs.InternalNear.{IsNear, IsNearBoundary, IsNearPair, alone};
 ghost use Rattle.fb_search.specs.InternalPieces.{AreSearched};
-ghost use Rattle.fb_trees.specs.InternalSteps.{IsTreeOver};
+ghost use Rattle.fb_trees.specs.TreesOver.{IsTreeOver};
 ghost use Rattle.fb_search.specs.Progress.{IsSearched};
 
 use crate::ending::add_matches;
@@ -25,7 +25,7 @@ use std::alloc::Global;
 fn grow_node<S: Scope>(regions: &mut Regions<S>, node: NodeId, length: u64)
     requires tree { IsTreeOver (S.problem regions.old.scope) (bare node) regions.old.nodes }
     requires may { MayStep (S.problem regions.old.scope) (alone node) regions.old.nodes length }
-    ensures { regions.new ≡ record { scope = regions.old.scope; nodes = stepped_nodes (alone node) length regions.old.nodes } }
+    ensures { regions.new ≡ record regions.old { nodes = stepped_nodes (alone node) length regions.old.nodes } }
 {
     regions.grow(node, length);
 }

@@ -1,7 +1,7 @@
--- The branches of a tree in their turns: each minus node shrinks, then the root and each other plus node grow.
-use Rattle.std.proofs.Common.{ℕ, ◌≡◌, ◌≤◌, true, false, List, [], ◌∷◌, ◌++◌, length, take, drop, refl, sym, ap, ◌∙◌, subst, map, reverse}
+-- A tree of one node steps as that node grows.
+use Rattle.std.proofs.Common.{ℕ, ◌≡◌, ◌≤◌, true, false, List, [], ◌∷◌, ◌++◌, length, take, refl, sym, ap, ◌∙◌, subst, map, reverse}
 use Rattle.std.proofs.lemmas.Bool.{false≢true}
-use Rattle.std.proofs.lemmas.List.{take-append-drop, take_all}
+use Rattle.std.proofs.lemmas.List.{take_all}
 use Rattle.std.proofs.lemmas.List.Sorted.{IsPermutation-append_comm, IsPermutation-cons, IsPermutation-map, IsPermutation-reverse, IsPermutation-trans}
 use Rattle.fb_graph.specs.Parity.{is_in}
 use Rattle.fb_graph.specs.Problem.{Problem}
@@ -13,9 +13,8 @@ use Rattle.fb_laws.specs.Trees.{minus_names, plus_names, roles_of}
 use Rattle.fb_laws.proofs.OpenedBlossoms.{same_permuted}
 use Rattle.fb_trees.specs.Branches.{Grown, entries_of, entry_of}
 use Rattle.fb_trees.specs.declared.branch.Branch.{Branch}
-use Rattle.fb_trees.specs.InternalSteps.{AreOver, IsTreeOver, roles_by_names}
+use Rattle.fb_trees.specs.TreesOver.{AreOver, IsTreeOver, roles_by_names}
 use Rattle.fb_trees.proofs.NodeTurns.{grown_turn, plus_turn}
-use Rattle.fb_graph.proofs.Floods.{is_in-left}
 use Rattle.std.specs.List.Sorted.{IsPermutation}
 
 -- the names of the minus nodes
@@ -46,10 +45,6 @@ plus_moved root bs =
     (IsPermutation-cons root (plus_of bs) (plus_of (reverse bs))
     (IsPermutation-map (λ b. b.plus) bs (reverse bs) (IsPermutation-reverse bs)))
     (IsPermutation-append_comm (root ∷ []) (plus_of (reverse bs))))
-
-pub before_is_in : (xs : List ℕ) (i n : ℕ) → is_in (take i xs) n ≡ true → is_in xs n ≡ true
-before_is_in xs i n within =
-    subst (λ l. is_in l n ≡ true) (take-append-drop i xs) (is_in-left (take i xs) (drop i xs) n within)
 
 module _ (p : Problem) (t : Grown) (nodes : List Node) (are : IsTreeOver p t nodes) (k : ℕ)
     (may : MayStep p (roles_of t.root t.branches) nodes k) (bs : List Branch) (read : entries_of bs ≡ t.branches) where

@@ -1,5 +1,5 @@
 -- What a forest has at the number of a tree.
-use Rattle.std.proofs.Common.{ℕ, zero, suc, ◌≡◌, ◌<◌, ◌==◌, ◌||◌, cond, Bool, true, false, List, [], ◌∷◌, ◌++◌, get_or, length, map, Option, Some, None, Vec, Global, sym, ap, ◌∙◌, subst, if◌then◌else◌}
+use Rattle.std.proofs.Common.{ℕ, zero, suc, ◌≡◌, ◌<◌, ◌==◌, ◌||◌, cond, Bool, true, false, List, [], ◌∷◌, ◌++◌, get_or, length, map, Option, Some, None, Vec, Global, option_map, refl, sym, ap, ◌∙◌, subst, if◌then◌else◌}
 use Rattle.std.proofs.lemmas.Bool.{both_ways, or_parts}
 use Rattle.std.proofs.lemmas.List.{get_or-map, length-map, map-append}
 use Rattle.std.proofs.lemmas.Option.{none-some, same_Some}
@@ -28,6 +28,11 @@ number_below trees t g at = subst (λ n. t < n) (length-map trees grown_of) (the
 pub tree_read : (trees : List OneTree) (t : ℕ) (d : OneTree) (g : Grown) → tree_at (map grown_of trees) t ≡ Some g
     → grown_of (get_or trees t d) ≡ Some g
 tree_read trees t d g at = sym (get_or-map grown_of trees t d None (number_below trees t g at)) ∙ at
+
+-- the tree that has the root
+pub tree_there : (o : Option Grown) (root : ℕ) → Some root ≡ option_map (λ g. g.root) o → (g : Grown) × (o ≡ Some g) × (g.root ≡ root)
+tree_there None root is = absurd (none-some root (sym is))
+tree_there (Some g) root is = (g, refl, sym (same_Some root g.root is))
 
 -- the tree of a number with the table
 pub viewed : (f : List (Option Grown)) (owners places : List (Option ℕ)) → IsKeptForest f owners places → (t : ℕ) (g : Grown)

@@ -5,10 +5,8 @@ pub mod ForestMoves
 pub mod ForestReads
 pub mod ForestReplaced
 pub mod ForestRoles
-pub mod ForestTurns
 pub mod ForestsCounted
 pub mod ForestsKept
-pub mod ListTurns
 pub mod LoneTrees
 pub mod Lookups
 pub mod Mapped
@@ -16,6 +14,8 @@ pub mod Marking
 pub mod Names
 pub mod NodeTurns
 pub mod Opening
+pub mod PacedForests
+pub mod PacedNodes
 pub mod Paths
 pub mod Replaced
 pub mod ReplacedTrees

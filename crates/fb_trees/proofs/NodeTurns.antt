@@ -1,28 +1,16 @@
 -- A step of a tree, node by node.
-use Rattle.std.proofs.Common.{ℕ, ◌≡◌, ◌==◌, ◌≤◌, ◌||◌, Bool, cond, true, false, List, [], ◌∷◌, ◌++◌, All, refl, sym, ap, ◌∙◌, subst}
-use Rattle.std.proofs.lemmas.Bool.{eqb-true, false≢true}
-use Rattle.std.proofs.lemmas.List.Elements.{All-head, All-tail}
+use Rattle.std.proofs.Common.{ℕ, ◌≡◌, ◌||◌, true, false, List, [], ◌∷◌, ◌++◌, refl, sym, ap, ◌∙◌, subst}
 use Rattle.fb_graph.specs.Parity.{is_in}
 use Rattle.fb_graph.specs.Problem.{Problem}
 use Rattle.fb_graph.specs.Dual.{AllowsGrowth, IsCrossed, Node, change_at, is_live, is_outer, thicker_node, top_at}
 use Rattle.fb_graph.specs.Steps.{MayStep, Roles, stepped_nodes, stepped_node}
-use Rattle.fb_graph.specs.Turns.{with_minus, with_plus, thinner_node}
+use Rattle.fb_graph.specs.Turns.{with_plus}
 use Rattle.fb_graph.proofs.Among.{All_among, live_among}
 use Rattle.fb_graph.proofs.MappedNodes.{mapped_outer, mapped_live}
 use Rattle.fb_graph.proofs.Members.{is_in_push}
 use Rattle.fb_graph.proofs.Sets.{equal_sym}
-use Rattle.fb_graph.proofs.StepTurns.{grown_next, growth_allowed, same_roles, shrink_allowed, shrunk_next, top_stepped}
-use Rattle.fb_regions.specs.Moves.{node_named}
-use Rattle.fb_trees.specs.InternalSteps.{AreOver, roles_by_names}
-
--- one more node that shrinks
-pub shrunk_turn : (done : List ℕ) (k name : ℕ) (nodes : List Node) → is_in done name ≡ false
-    → change_at name (thinner_node k) (stepped_nodes (roles_by_names [] done) k nodes)
-    ≡ stepped_nodes (roles_by_names [] (done ++ name ∷ [])) k nodes
-shrunk_turn done k name nodes new =
-    shrunk_next (roles_by_names [] done) k name nodes refl new
-    ∙ same_roles (with_minus (roles_by_names [] done) name) (roles_by_names [] (done ++ name ∷ [])) k nodes (λ n. refl)
-    (λ n. ap (λ b. is_in done n || b) (equal_sym n name) ∙ sym (is_in_push done name n))
+use Rattle.fb_graph.proofs.StepTurns.{grown_next, growth_allowed, same_roles, top_stepped}
+use Rattle.fb_trees.specs.TreesOver.{AreOver, roles_by_names}
 
 -- one more node that grows
 pub grown_turn : (done minus : List ℕ) (k name : ℕ) (nodes : List Node) → is_in done name ≡ false
@@ -33,19 +21,6 @@ grown_turn done minus k name nodes new out =
     grown_next (roles_by_names done minus) k name nodes new out
     ∙ same_roles (with_plus (roles_by_names done minus) name) (roles_by_names (done ++ name ∷ []) minus) k nodes
     (λ n. ap (λ b. is_in done n || b) (equal_sym n name) ∙ sym (is_in_push done name n)) (λ n. refl)
-
--- what holds of each node of the name holds of the one that the name finds
-named_value : (nodes : List Node) (k name : ℕ) → is_live nodes name ≡ true → All (λ n. n.name ≡ name → k ≤ n.top.value) nodes
-    → k ≤ (node_named nodes name).top.value
-named_value [] k name live all = absurd (false≢true live)
-named_value (n ∷ ns) k name live all =
-    by (n.name == name) refl live (λ l. named_value ns k name l (All-tail (λ m. m.name ≡ name → k ≤ m.top.value) n ns all))
-  where
-    by : (b : Bool) → (n.name == name) ≡ b → (b || is_live ns name) ≡ true
-        → (is_live ns name ≡ true → k ≤ (node_named ns name).top.value)
-        → k ≤ (cond b n (node_named ns name)).top.value
-    by true e l rest = All-head (λ m. m.name ≡ name → k ≤ m.top.value) n ns all (eqb-true n.name name e)
-    by false e l rest = rest l
 
 pub still_live : (roles : Roles) (k name : ℕ) (nodes : List Node) → is_live nodes name ≡ true
     → is_live (stepped_nodes roles k nodes) name ≡ true
@@ -62,27 +37,6 @@ module _ (p : Problem) (all_plus all_minus : List ℕ) (nodes : List Node) (are 
       subst (λ x. is_outer nodes x ≡ true) named
       (All_among (λ n. (roles_by_names all_plus all_minus).is_plus n.name ≡ true → is_outer nodes n.name ≡ true) nodes are.roles.plus m among
       (ap (is_in all_plus) named ∙ plus))
-
-  minus_outer : (name : ℕ) → is_in all_minus name ≡ true → is_outer nodes name ≡ true
-  minus_outer name minus =
-      let (m, among, named) = live_among nodes name (are.minus_live name minus) in
-      subst (λ x. is_outer nodes x ≡ true) named
-      (All_among (λ n. (roles_by_names all_plus all_minus).is_minus n.name ≡ true → is_outer nodes n.name ≡ true) nodes are.roles.minus m among
-      (ap (is_in all_minus) named ∙ minus))
-
-  -- a minus node may shrink in its turn
-  pub minus_turn : (done : List ℕ) (k name : ℕ) → MayStep p (roles_by_names all_plus all_minus) nodes k
-      → is_in all_minus name ≡ true → is_in done name ≡ false
-      → (is_live (stepped_nodes (roles_by_names [] done) k nodes) name ≡ true)
-      × (is_outer (stepped_nodes (roles_by_names [] done) k nodes) name ≡ true)
-      × (k ≤ (node_named (stepped_nodes (roles_by_names [] done) k nodes) name).top.value)
-  minus_turn done k name may minus new =
-      let live = still_live (roles_by_names [] done) k name nodes (are.minus_live name minus) in (
-        live,
-        still_outer (roles_by_names [] done) k name nodes (minus_outer name minus),
-        named_value (stepped_nodes (roles_by_names [] done) k nodes) k name live
-            (shrink_allowed p (roles_by_names [] done) (roles_by_names all_plus all_minus) nodes k name may minus new refl),
-      )
 
   -- a plus node may grow in its turn
   pub plus_turn : (done minus : List ℕ) (k name : ℕ) → MayStep p (roles_by_names all_plus all_minus) nodes k

@@ -3,6 +3,7 @@
 use Rattle.std.specs.Prelude.{ℕ, ◌≡◌, true, false, List, [], ◌∷◌, ◌++◌, map, get_or, set, Option, Some, None, if◌then◌else◌}
 use Rattle.fb_graph.specs.Parity.{is_in}
 use Rattle.fb_graph.specs.Steps.{Roles}
+use Rattle.fb_regions.specs.Paces.{Paced, pace_in}
 use Rattle.fb_regions.specs.declared.roles.Role.{Role}
 use Rattle.fb_regions.specs.declared.roles.Role.TheVariants.{Plus, Minus, Out}
 use Rattle.fb_laws.specs.Trees.{minus_names, plus_names}
@@ -80,6 +81,10 @@ abbrev pub role_among : List (Option Grown) → ℕ → Role
 role_among forest name =
     if is_in (all_plus (trees_in forest)) name then Plus
     else (if is_in (all_minus (trees_in forest)) name then Minus else Out)
+
+-- each node moves as its role in the trees says, and no other node moves
+abbrev pub AreInPace : {S : Type 0} → Paced S → List (Option Grown) → Type 0
+AreInPace regions forest = (name : ℕ) → pace_in regions name ≡ role_among forest name
 
 -- each tree is one by itself, and no node is in two of them
 pub record AreRootedApart (forest : List (Option Grown)) : Type 0 where

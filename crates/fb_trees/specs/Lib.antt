@@ -6,8 +6,8 @@ pub mod InternalMetWalks
 pub mod InternalNames
 pub mod InternalPaths
 pub mod InternalPlaces
-pub mod InternalSteps
 pub mod Replacements
 pub mod Rooted
 pub mod TreeLinks
 pub mod TreeSteps
+pub mod TreesOver

@@ -1,68 +1,77 @@
-//! A step of a tree over the regions of its nodes.
+//! How trees move the regions of their nodes: each node has the pace of its role, and a step is a step of the clock.
 
-ghost use Rattle.std.specs.Prelude.{◌≡◌, ◌++◌, ◌∷◌, [], ℕ, List, map};
-ghost use Rattle.fb_graph.specs.Dual.{Node};
+ghost use Rattle.std.specs.Prelude.{◌≡◌, ◌&&◌, ◌∷◌, [], ℕ, Some, if◌then◌else◌};
+ghost use Rattle.fb_graph.specs.Dual.{is_live};
+ghost use Rattle.fb_graph.specs.Parity.{is_in};
 ghost use Rattle.fb_graph.specs.Steps.{MayStep, stepped_nodes};
 ghost use Rattle.fb_laws.specs.Trees.{roles_of};
-ghost use Rattle.fb_trees.specs.InternalSteps.{AreTreesOver, IsGrowing, IsShrinking, IsTreeOver, roles_by_names};
-ghost use Rattle.fb_trees.specs.Forests.{all_roles, trees_in};
+ghost use Rattle.fb_regions.specs.Paces.{IsRepaced, pace_in};
+ghost use Rattle.fb_regions.specs.declared.roles.Role.TheVariants.{Out};
+ghost use Rattle.fb_trees.specs.Branches.{Grown};
+ghost use Rattle.fb_trees.specs.Forests.{AreInPace, IsInside, IsTreeOf, all_roles, role_among, trees_in};
+ghost use Rattle.fb_trees.specs.Rooted.{is_node};
+ghost use Rattle.fb_trees.specs.TreesOver.{AreTreesOver, IsTreeOver, branch_names};
 
-use crate::{Branch, Forest, NodeId, Tree};
+use crate::{Branch, Forest, NodeId, Role, Tree};
 use fb_graph::Scope;
 use fb_regions::Regions;
 
-/// Each minus node of the tree shrinks by this length, and then each plus node grows by it. In the other order an edge
-/// might not bear a node's growth. Takes time for each branch, and no memory.
+/// Each minus node of the tree shrinks by this length, and each plus node grows by it. Takes constant time, and no memory.
 pub fn step_nodes<S: Scope>(regions: &mut Regions<S>, tree: &Tree, length: u64)
     requires tree { IsTreeOver (S.problem regions.old.scope) tree.now regions.old.nodes }
+    requires paces { AreInPace regions.old (Some tree.now ∷ []) }
     requires may { MayStep (S.problem regions.old.scope) (roles_of tree.now.root tree.now.branches) regions.old.nodes length }
-    ensures { regions.new ≡ record { scope = regions.old.scope; nodes = stepped_nodes (roles_of tree.now.root tree.now.branches) length regions.old.nodes } }
+    ensures { regions.new ≡ record regions.old { nodes = stepped_nodes (roles_of tree.now.root tree.now.branches) length regions.old.nodes } }
 {
     grow_all(regions, &tree.forest, length);
 }
 
-/// Each minus node of all trees shrinks by this length, and then each plus node grows by it; nothing else changes. In the
-/// other order an edge might not bear a node's growth. Takes time for each branch, and no memory.
+/// Each minus node of all trees shrinks by this length, and each plus node grows by it; nothing else changes. All of them
+/// move with the clock, so that it takes constant time. Takes no memory.
 pub fn grow_all<S: Scope>(regions: &mut Regions<S>, forest: &Forest, length: u64)
     requires forest { AreTreesOver (S.problem regions.old.scope) (trees_in forest.now) regions.old.nodes }
+    requires paces { AreInPace regions.old forest.now }
     requires may { MayStep (S.problem regions.old.scope) (all_roles (trees_in forest.now)) regions.old.nodes length }
-    ensures { regions.new ≡ record { scope = regions.old.scope; nodes = stepped_nodes (all_roles (trees_in forest.now)) length regions.old.nodes } }
+    ensures { regions.new ≡ record regions.old { nodes = stepped_nodes (all_roles (trees_in forest.now)) length regions.old.nodes } }
 {
-    for tree in 0..forest.count() {
-        if let Some(_root) = forest.root(tree) {
-            shrink_minus(regions, forest.branches(tree), length);
-        }
-    }
-    for tree in 0..forest.count() {
-        if let Some(root) = forest.root(tree) {
-            grow_plus(regions, root, forest.branches(tree), length);
-        }
+    let _ = forest;
+    regions.keeps();
+    regions.advance(length);
+}
+
+/// Gives each of these nodes the pace of its role in the forest.
+pub fn set_paces<S: Scope>(regions: &mut Regions<S>, forest: &Forest, nodes: &[NodeId])
+    ensures same { IsRepaced regions.old regions.new }
+    ensures paces { (n : ℕ) → pace_in regions.new n ≡ (if is_in nodes.now n && is_live regions.old.nodes n then role_among forest.now n else pace_in regions.old n) }
+{
+    for node in nodes {
+        regions.set_pace(*node, forest.role(*node));
     }
 }
 
-/// The minus nodes of the branches shrink.
-fn shrink_minus<S: Scope>(regions: &mut Regions<S>, branches: &[Branch], length: u64)
-    requires { (plus : List ℕ) × (minus : List ℕ) × (done : List ℕ) × (nodes : List Node)
-        × IsShrinking (S.problem regions.old.scope) plus minus done nodes branches.now length regions.old.nodes }
-    ensures { (plus minus done : List ℕ) (nodes : List Node)
-        → IsShrinking (S.problem regions.old.scope) plus minus done nodes branches.now length regions.old.nodes
-        → regions.new ≡ record { scope = regions.old.scope; nodes = stepped_nodes (roles_by_names [] (done ++ map (λ b. b.minus) branches.now)) length nodes } }
+/// The nodes of the node's tree stop. Takes time for each branch.
+pub fn rest_tree<S: Scope>(regions: &mut Regions<S>, forest: &Forest, node: NodeId)
+    requires inside { IsInside forest.now node }
+    ensures same { IsRepaced regions.old regions.new }
+    ensures paces { (t : ℕ) (g : Grown) → IsTreeOf forest.now node t g → (n : ℕ) → pace_in regions.new n ≡ (if is_node g n && is_live regions.old.nodes n then Out else pace_in regions.old n) }
 {
-    for branch in branches {
-        regions.shrink(branch.minus, length);
-    }
+    let Some(tree) = forest.tree_of(node) else {
+        unreachable!()
+    };
+    let Some(root) = forest.root(tree) else {
+        unreachable!()
+    };
+    regions.set_pace(root, Role::Out);
+    rest_branches(regions, forest.branches(tree));
 }
 
-/// The root grows, and so do the plus nodes of the branches.
-fn grow_plus<S: Scope>(regions: &mut Regions<S>, root: NodeId, branches: &[Branch], length: u64)
-    requires { (plus : List ℕ) × (minus : List ℕ) × (done : List ℕ) × (nodes : List Node)
-        × IsGrowing (S.problem regions.old.scope) plus minus done nodes root branches.now length regions.old.nodes }
-    ensures { (plus minus done : List ℕ) (nodes : List Node)
-        → IsGrowing (S.problem regions.old.scope) plus minus done nodes root branches.now length regions.old.nodes
-        → regions.new ≡ record { scope = regions.old.scope; nodes = stepped_nodes (roles_by_names (done ++ root ∷ map (λ b. b.plus) branches.now) minus) length nodes } }
+/// The nodes of the branches stop.
+fn rest_branches<S: Scope>(regions: &mut Regions<S>, branches: &[Branch])
+    ensures same { IsRepaced regions.old regions.new }
+    ensures paces { (n : ℕ) → pace_in regions.new n ≡ (if is_in (branch_names branches.now) n && is_live regions.old.nodes n then Out else pace_in regions.old n) }
 {
-    regions.grow(root, length);
     for branch in branches {
-        regions.grow(branch.plus, length);
+        regions.set_pace(branch.minus, Role::Out);
+        regions.set_pace(branch.plus, Role::Out);
     }
 }

@@ -39,4 +39,5 @@ loop-v-preserved c =
           (started_more _ _ _ _ _ _ _ c.in_ok-add_leaf.field-0 (get_or c.args.own.now c.loop-v.v-index 0) c.loop-v.invariant.0
           c.in_ok-add_leaf.ensures.store c.in_ok-add_leaf.ensures.nodes c.in_ok-add_leaf.ensures.matching),
       c.in_ok-add_leaf.ensures.scope ∙ c.loop-v.invariant.1,
+      λ rest. c.in_ok-add_leaf.ensures.rest (c.loop-v.invariant.2 rest),
     )

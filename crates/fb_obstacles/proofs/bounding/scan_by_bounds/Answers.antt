@@ -1,4 +1,4 @@
-use Rattle.std.proofs.Common.{ℕ, ◌≤◌, [], ◌∷◌, All, arith}
+use Rattle.std.proofs.Common.{ℕ, ◌≤◌, [], ◌∷◌, arith}
 use Rattle.std.proofs.lemmas.List.Elements.{All-head, All-nil, All-cons}
 use Rattle.fb_obstacles.specs.Obstacles.{roles_by}
 use Rattle.fb_obstacles.specs.InternalLooks.{IsAtMostEach, minus_tops}

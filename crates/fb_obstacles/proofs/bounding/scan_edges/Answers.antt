@@ -1,4 +1,4 @@
-use Rattle.std.proofs.Common.{◌≡◌, ◌∙◌, length, get_or, refl, sym, ap, subst, true, arith}
+use Rattle.std.proofs.Common.{◌≡◌, ◌∙◌, get_or, refl, sym, ap, subst, true, arith}
 use Rattle.fb_obstacles.specs.InternalLooks.{HasScanned, fits_within}
 use Rattle.fb_obstacles.proofs.BoundedScans.{edge_within, scanned_all, scanned_blocked, scanned_left, scanned_more, scanned_none, scanned_passed}
 use Rattle.fb_obstacles.proofs.bounding.scan_edges.Goals as goal

@@ -1,5 +1,6 @@
 use Rattle.std.proofs.Common.{◌≡◌, ◌∙◌, true, refl, sym, ap}
-use Rattle.fb_obstacles.specs.Obstacles.{roles_by, shrinks}
+use Rattle.fb_regions.specs.Paces.{shrinks}
+use Rattle.fb_obstacles.specs.Obstacles.{roles_by}
 use Rattle.fb_obstacles.proofs.NodeLooks.{first_limits, first_postponed}
 use Rattle.fb_obstacles.proofs.shrinking.look_at_first.Goals as goal
 

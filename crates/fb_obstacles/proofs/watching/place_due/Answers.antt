@@ -10,6 +10,8 @@ pub returns-then-index-due : goal.returns-then-index-due
 returns-then-index-due c =
     let found = found_at (keys c.args.known.now) c.in_ok-edge.edge c.in-Some.place c.in-Some.ensures.index in (
       c.if-place-queued.true,
+      sym (ap (λ o. unwrap_or o 0) (sym c.index.ensures) ∙ unwrap_or-slice_get (values c.args.known.now) c.in-Some.place 0)
+          ∙ c.if-index-due.true,
       λ i less here.
           one_place (keys c.args.known.now) i c.in-Some.place c.in-Some.ensures.unique
           (omega (arith, less, c.requires.within, length-keys c.args.known.now.entries)) found.1 (here ∙ (sym c.in_ok-edge.ensures ∙ sym found.2)),

@@ -15,7 +15,7 @@ returns-then-is_some-clause-some c =
       λ i less other.
           due_left c.in-Some.due c.loop-due.queue c.pop_before.new.self (get_or (values c.args.known.now) i 0)
           (get_or (keys c.args.known.now) i 0) (c.in-Some.ensures.taken _ _) (c.loop-due.invariant i less)
-          (λ key value. other (both.1 i less key)),
+          (λ key value. other (both.2 i less key)),
     ))
 
 pub returns-clause-none : goal.returns-clause-none

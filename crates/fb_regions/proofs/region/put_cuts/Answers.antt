@@ -6,32 +6,34 @@ use Rattle.fb_graph.specs.Printed.{is_positive}
 use Rattle.fb_graph.specs.declared.parts.Cut.{Cut}
 use Rattle.fb_regions.specs.declared.marks.Mark.{Mark}
 use Rattle.fb_regions.specs.declared.region.Region.{Region}
+use Rattle.fb_regions.specs.InternalClock.{now_at}
 use Rattle.fb_regions.specs.InternalNodes.{added_to, first_of, node_of, stack}
 use Rattle.fb_regions.proofs.PositiveCuts.{positive-zero}
 use Rattle.fb_regions.proofs.region.put_cuts.Goals as goal
 
 -- the lower layers and the top one are all
-whole_cuts : (marks : List (Option Mark)) (r : Region) (first added vertices set : List ℕ) (old lower new : List Cut) → first ≡ first_of marks r
+whole_cuts : (marks : List (Option Mark)) (r : Region) (value : ℕ) (first added vertices set : List ℕ) (old lower new : List Cut) → first ≡ first_of marks r
     → added ≡ added_to marks r → vertices ≡ added → set ≡ first ++ vertices → lower ≡ old ++ filter is_positive (stack marks first vertices)
-    → new ≡ lower ++ filter is_positive (record { value = r.top_value; vertices = set } ∷ [])
+    → value ≡ r.top_value → new ≡ lower ++ filter is_positive (record { value = value; vertices = set } ∷ [])
     → new ≡ old ++ filter is_positive (layers_of (node_of marks r))
-whole_cuts marks r first added vertices set old lower new first_is added_is vertices_are set_is lower_is new_is =
-    rw (new_is, lower_is, set_is, vertices_are, first_is, added_is)
+whole_cuts marks r value first added vertices set old lower new first_is added_is vertices_are set_is lower_is value_is new_is =
+    rw (new_is, value_is, lower_is, set_is, vertices_are, first_is, added_is)
     (append_assoc old _ _
     ∙ ap (λ cuts. old ++ cuts) (sym (filter-append is_positive (node_of marks r).below ((node_of marks r).top ∷ []))))
 
-pub returns-then-region-eq0 : goal.returns-then-region-eq0
-returns-then-region-eq0 c =
-    let layers = layers_of (node_of c.args.marks.now c.args.region.now) in
+pub returns-then-radius_at-eq0 : goal.returns-then-radius_at-eq0
+returns-then-radius_at-eq0 c =
+    let layers = layers_of (node_of c.args.marks.now (now_at c.args.clock c.args.region.now)) in
     sym
-    (ap (λ cuts. c.args.cuts.now.items ++ cuts) (positive-zero layers (sym c.requires ∙ c.if-region-eq0.true))
+    (ap (λ cuts. c.args.cuts.now.items ++ cuts)
+    (positive-zero layers (sym c.requires.radius ∙ (sym c.radius_at.ensures ∙ c.if-radius_at-eq0.true)))
     ∙ append-nil c.args.cuts.now.items)
 
 pub returns : goal.returns
 returns c =
     on_ok_weaker c.put_top.result
     (λ is.
-    whole_cuts c.args.marks.now c.args.region.now c.in_ok-set.set.items c.in_ok-added.added.items c.as_slice.result.now
+    whole_cuts c.args.marks.now (now_at c.args.clock c.args.region.now) c.top_at.result c.in_ok-set.set.items c.in_ok-added.added.items c.as_slice.result.now
     c.put_lower_cuts.new.set.items c.args.cuts.now.items c.put_lower_cuts.new.cuts.items c.put_top.new.cuts.items c.in_ok-set.ensures
-    c.in_ok-added.ensures c.as_slice.ensures.value c.in_ok-put_lower_cuts.ensures.0 c.in_ok-put_lower_cuts.ensures.1 is)
+    c.in_ok-added.ensures c.as_slice.ensures.value c.in_ok-put_lower_cuts.ensures.0 c.in_ok-put_lower_cuts.ensures.1 c.top_at.ensures is)
     c.put_top.ensures

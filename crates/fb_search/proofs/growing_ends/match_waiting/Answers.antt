@@ -1,6 +1,6 @@
-use Rattle.std.proofs.Common.{refl}
+use Rattle.std.proofs.Common.{refl, subst, sym}
 use Rattle.fb_laws.specs.Trees.{minus_names}
-use Rattle.fb_trees.specs.Forests.{IsTreeOf}
+use Rattle.fb_trees.specs.Forests.{AreInPace, IsTreeOf}
 use Rattle.fb_trees.proofs.ForestReads.{plus_inside, plus_is}
 use Rattle.fb_search.specs.InternalGrowing.{GrowingValue, growing_of}
 use Rattle.fb_search.proofs.DissolvedWatches.{kept_each}
@@ -8,6 +8,7 @@ use Rattle.fb_search.proofs.EndedWays.{boundary_match}
 use Rattle.fb_search.proofs.GrownEnds.{may_match, minus_live_in}
 use Rattle.fb_search.proofs.ListedSteps.{scope_is}
 use Rattle.fb_search.proofs.NearMatches.{limits_scoped}
+use Rattle.fb_search.proofs.PacedMoves.{paced_dissolved}
 use Rattle.fb_search.proofs.ScopeWalks.{between_scoped, met_scoped}
 use Rattle.fb_search.proofs.TreeMeets.{outside_between}
 use Rattle.fb_search.proofs.WaitingEnds.{meeting_node, met_waits, still_waits, woken_fresh, woken_left, woken_listed}
@@ -16,7 +17,7 @@ use Rattle.fb_search.proofs.growing_ends.match_waiting.Goals as goal
 pub link_between-requires : goal.link_between-requires
 link_between-requires c =
     let w : GrowingValue = growing_of c.args.pieces.now in
-    between_scoped w.part _ (scope_is _ c.requires.scope) c.args.edge c.args.plus c.args.other
+    between_scoped w.part _ (scope_is _ c.requires.paced.scope) c.args.edge c.args.plus c.args.other
     (outside_between w c.args.edge c.args.plus c.args.other c.requires.meets)
 
 pub watch_tree-requires-clause-plus : goal.watch_tree-requires-clause-plus
@@ -28,6 +29,14 @@ watch_tree-requires-clause-live c t g is =
     let w : GrowingValue = growing_of c.args.pieces.now in
     let node = meeting_node w c.args.edge c.args.plus c.args.other c.requires.growing c.requires.meets in
     minus_live_in w t g c.args.plus c.requires.growing is.at (plus_is w.forest c.keeps.ensures c.args.plus node t g is)
+
+pub rest_tree-requires : goal.rest_tree-requires
+rest_tree-requires c =
+    let w : GrowingValue = growing_of c.args.pieces.now in
+    record {
+      inside =
+          plus_inside w.forest c.args.plus (meeting_node w c.args.edge c.args.plus c.args.other c.requires.growing c.requires.meets);
+    }
 
 pub match_tree-requires : goal.match_tree-requires
 match_tree-requires c =
@@ -63,7 +72,7 @@ add_match-requires c =
 pub returns : goal.returns
 returns c =
     let w : GrowingValue = growing_of c.args.pieces.now in
-    let scope = c.requires.scope in
+    let scope = c.requires.paced.scope in
     let made = c.in_ok-link.ensures in
     let node = meeting_node w c.args.edge c.args.plus c.args.other c.requires.growing c.requires.meets in
     let is : IsTreeOf w.forest c.args.plus node.tree node.grown = (plus_inside w.forest c.args.plus node).is in
@@ -81,19 +90,26 @@ returns c =
     (kept_each w.part _ c.args.pieces.now.parts.regions.scope.plan.now c.args.pieces.now.parts.regions.scope.node w.part.nodes
     (minus_names node.grown.branches) w.watched c.watch_tree.new.watch scope.graph (c.watch_tree.ensures node.tree node.grown is))
     c.keeps-2.ensures.within in
-    record {
-      scope = record {
-        graph = scope.graph;
-        plan = scope.plan;
-        node = scope.node;
-        defects = scope.defects;
-        listed =
-            woken_listed w node.tree node.grown c.args.plus c.args.other c.requires.growing node.at node.plus waits
-            c.in_ok-link.link made.walk c.link_between.new.links made.adds c.match_tree.new.matching c.match_tree.new.links
-            c.match_tree.new.forest done c.take_unmatched.new.self c.take_unmatched.ensures.matches
-            c.take_unmatched.ensures.unmatched met c.add_match.new.self c.in_ok-add_match.ensures.ok c.args.pieces.now.parts.seams
-            scope.listed;
+    rw c.rest_tree.ensures.same (record {
+      paced = record {
+        scope = record {
+          graph = scope.graph;
+          plan = scope.plan;
+          node = scope.node;
+          defects = scope.defects;
+          listed =
+              woken_listed w node.tree node.grown c.args.plus c.args.other c.requires.growing node.at node.plus waits
+              c.in_ok-link.link made.walk c.link_between.new.links made.adds c.match_tree.new.matching c.match_tree.new.links
+              c.match_tree.new.forest done c.take_unmatched.new.self c.take_unmatched.ensures.matches
+              c.take_unmatched.ensures.unmatched met c.add_match.new.self c.in_ok-add_match.ensures.ok c.args.pieces.now.parts.seams
+              scope.listed;
+          rest = scope.rest;
+        };
+        paces = subst (AreInPace c.rest_tree.new.regions) (sym done.dissolved)
+            (paced_dissolved w node.tree node.grown node.at c.requires.growing w.forest node.at c.keeps.ensures
+            c.args.pieces.now.parts.regions c.rest_tree.new.regions refl c.requires.paced.paces
+            (c.rest_tree.ensures.paces node.tree node.grown is));
       };
       keeps = left.0;
       grows_on = left.1;
-    }
+    })

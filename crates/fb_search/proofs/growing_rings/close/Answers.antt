@@ -10,23 +10,27 @@ use Rattle.fb_search.proofs.growing_rings.close.Goals as goal
 pub link_between-requires : goal.link_between-requires
 link_between-requires c =
     let w : GrowingValue = growing_of c.args.pieces.now in
-    between_scoped w.part _ (scope_is _ c.requires.scope) c.args.edge c.args.first c.args.second
+    between_scoped w.part _ (scope_is _ c.requires.paced.scope) c.args.edge c.args.first c.args.second
     (ring_between w c.args.edge c.args.first c.args.second c.requires.pair)
 
 pub join_cycle-requires : goal.join_cycle-requires
 join_cycle-requires c =
     let w : GrowingValue = growing_of c.args.pieces.now in
-    let scope = c.requires.scope in
+    let scope = c.requires.paced.scope in
     let made = c.in_ok-closing.ensures in
     record {
-      scope = record {
-        graph = scope.graph;
-        plan = scope.plan;
-        node = scope.node;
-        defects = scope.defects;
-        listed =
-            ring_listed w c.args.pieces.now.parts.seams c.link_between.new.links c.in_ok-closing.closing made.walk
-            c.requires.growing made.adds scope.listed;
+      paced = record {
+        scope = record {
+          graph = scope.graph;
+          plan = scope.plan;
+          node = scope.node;
+          defects = scope.defects;
+          listed =
+              ring_listed w c.args.pieces.now.parts.seams c.link_between.new.links c.in_ok-closing.closing made.walk
+              c.requires.growing made.adds scope.listed;
+          rest = scope.rest;
+        };
+        paces = c.requires.paced.paces;
       };
       closes = ring_link w c.args.edge c.args.first c.args.second c.requires.pair made.walk c.in_ok-closing.closing
           c.link_between.new.links c.requires.growing made.adds
@@ -40,7 +44,7 @@ returns c =
     let w : GrowingValue = growing_of c.args.pieces.now in
     IfOk-weaker _ _ (λ _. AreGrowing w c.join_cycle.new.pieces)
     (λ _ (are : AreGrowing (relinked_growing c.link_between.new.links w) c.join_cycle.new.pieces). record {
-      scope = are.scope;
+      paced = are.paced;
       keeps = are.keeps;
       grows_on = grows_on_relinked w _ c.link_between.new.links are.grows_on;
     }) c.join_cycle.ensures

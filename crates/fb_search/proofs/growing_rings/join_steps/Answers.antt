@@ -1,4 +1,4 @@
-use Rattle.std.proofs.Common.{◌∙◌, ◌≡◌, ◌≢◌, false, ap, length, subst, sym}
+use Rattle.std.proofs.Common.{◌∙◌, ◌≡◌, ◌≢◌, false, ap, length, refl, subst, sym}
 use Rattle.std.proofs.lemmas.Result.{IfOk-weaker}
 use Rattle.fb_graph.specs.Parity.{is_in}
 use Rattle.fb_half.specs.Matchings.{listed_names}
@@ -9,6 +9,7 @@ use Rattle.fb_search.specs.InternalClosings.{IsReplacedBy}
 use Rattle.fb_search.specs.InternalGrowing.{GrowingValue, growing_of}
 use Rattle.fb_search.proofs.ClosedCycles.{steps_join, steps_live, steps_odd, steps_outer, steps_round}
 use Rattle.fb_search.proofs.ListedSteps.{scope_is}
+use Rattle.fb_search.proofs.PacedBlossoms.{ring_paced}
 use Rattle.fb_search.proofs.RingCycles.{first_at, first_inside, first_of, ring_closes, ring_replaced}
 use Rattle.fb_search.proofs.RingSearches.{ring_made, ring_new, ring_root_new, tree_now}
 use Rattle.fb_search.proofs.growing_rings.join_steps.Goals as goal
@@ -22,7 +23,7 @@ watch_minus-requires-clause-live c =
 
 pub watch_minus-requires-clause-room : goal.watch_minus-requires-clause-room
 watch_minus-requires-clause-room c =
-    c.requires.cycle.2.growing.room ∙ sym (ap (λ g. length g.edges) c.requires.scope.graph)
+    c.requires.cycle.2.growing.room ∙ sym (ap (λ g. length g.edges) c.requires.paced.scope.graph)
 
 pub form-requires-clause-cycle : goal.form-requires-clause-cycle
 form-requires-clause-cycle c =
@@ -145,7 +146,7 @@ pub returns : goal.returns
 returns c =
     let w : GrowingValue = growing_of c.args.pieces.now in
     let (a, b, closes, is) = c.requires.cycle in
-    let scope = c.requires.scope in
+    let scope = c.requires.paced.scope in
     let fresh =
     ring_new w a b c.args.closing closes c.args.cycle.items is c.in_ok-blossom.blossom
     c.form.new.self c.in_ok-blossom.ensures.ok in
@@ -158,7 +159,7 @@ returns c =
     tree_now w a b c.args.closing closes c.args.cycle.items is c.in_ok-blossom.blossom c.form.new.self
     c.in_ok-blossom.ensures.ok c.args.nodes.now c.requires.nodes c.args.closing c.replace.new.self
     (c.in_ok-replace.ensures.ok closes.tree closes.grown first) in
-    rw c.in_ok-join_nodes.ensures.ok
+    rw (c.set_paces-2.ensures.same, c.set_paces.ensures.same, c.in_ok-join_nodes.ensures.ok)
     (IfOk-weaker _ _ _
     (λ _ (replaced : IsReplacedBy c.root_of-root.result c.root_of.result w.part.matching c.replace_unmatched.new.matching).
     let both =
@@ -171,14 +172,22 @@ returns c =
     (c.root_of-root.ensures closes.grown (ap (tree_at w.forest) same ∙ closes.at)) replaced)
     c.watch_minus.new.watch c.watch_minus.ensures c.keeps.ensures.within in
     record {
-      scope = record {
-        graph = scope.graph;
-        plan = scope.plan;
-        node = scope.node;
-        defects = scope.defects;
-        listed =
-            subst (AreListed (problem_in w.part).is_real w.part.job.plan c.args.pieces.now.parts.seams w.part.links) (sym replaced.matches)
-            scope.listed;
+      paced = record {
+        scope = record {
+          graph = scope.graph;
+          plan = scope.plan;
+          node = scope.node;
+          defects = scope.defects;
+          listed =
+              subst (AreListed (problem_in w.part).is_real w.part.job.plan c.args.pieces.now.parts.seams w.part.links) (sym replaced.matches)
+              scope.listed;
+          rest = record { plus = refl; minus = refl };
+        };
+        paces = ring_paced w a b c.args.closing closes c.args.cycle.items is c.in_ok-blossom.blossom c.form.new.self
+            c.in_ok-blossom.ensures.ok c.args.nodes.now c.requires.nodes c.args.closing c.replace.new.self
+            (c.in_ok-replace.ensures.ok closes.tree closes.grown first) c.args.pieces.now.parts.regions c.join_nodes.new.self
+            c.set_paces.new.regions c.set_paces-2.new.regions c.in_ok-join_nodes.ensures.ok c.set_paces.ensures.same
+            c.requires.paced.paces c.set_paces.ensures.paces c.set_paces-2.ensures.paces;
       };
       keeps = both.0;
       grows_on = both.1;

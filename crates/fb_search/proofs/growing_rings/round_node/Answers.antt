@@ -23,16 +23,20 @@ pub join_cycle-requires : goal.join_cycle-requires
 join_cycle-requires c =
     let w : GrowingValue = growing_of c.args.pieces.now in
     let node = minus_node w.forest c.args.node c.requires.zero.0 in
-    let scope = c.requires.scope in
+    let scope = c.requires.paced.scope in
     record {
-      scope = record {
-        graph = scope.graph;
-        plan = scope.plan;
-        node = scope.node;
-        defects = scope.defects;
-        listed =
-            ring_listed w c.args.pieces.now.parts.seams c.join_ends.new.self c.in_ok-closing.closing _
-            c.requires.growing c.in_ok-closing.ensures.ok scope.listed;
+      paced = record {
+        scope = record {
+          graph = scope.graph;
+          plan = scope.plan;
+          node = scope.node;
+          defects = scope.defects;
+          listed =
+              ring_listed w c.args.pieces.now.parts.seams c.join_ends.new.self c.in_ok-closing.closing _
+              c.requires.growing c.in_ok-closing.ensures.ok scope.listed;
+          rest = scope.rest;
+        };
+        paces = c.requires.paced.paces;
       };
       closes = ring_rounded w node.tree node.grown node.at c.requires.growing c.args.node (entry_of c.branch-branch.result)
           c.requires.zero.1 (c.branch-branch.ensures node.tree node.grown (in_its_tree w.forest c.args.node node))
@@ -44,7 +48,7 @@ returns c =
     let w : GrowingValue = growing_of c.args.pieces.now in
     IfOk-weaker _ _ (λ _. AreGrowing w c.join_cycle.new.pieces)
     (λ _ (are : AreGrowing (relinked_growing c.join_ends.new.self w) c.join_cycle.new.pieces). record {
-      scope = are.scope;
+      paced = are.paced;
       keeps = are.keeps;
       grows_on = grows_on_relinked w _ c.join_ends.new.self are.grows_on;
     }) c.join_cycle.ensures

@@ -22,5 +22,5 @@ search_from-requires-clause-unmatched g c =
 
 pub returns-in-len1-clause-none : goal.returns-in-len1-clause-none
 returns-in-len1-clause-none g c =
-    let one : length c.in_ok-work-2.work.matching.unmatched < 2 = omega (arith, ap length c.unmatched-2.ensures, c.in-len1.len_below) in
-    IfOk-weaker c.search_from.result _ _ (λ r is. all_searched _ c.in_ok-work-2.work r.0 one is) c.search_from.ensures.searched
+    let one : length c.in_ok-work.work.matching.unmatched < 2 = omega (arith, ap length c.unmatched-2.ensures, c.in-len1.len_below) in
+    IfOk-weaker c.search_from.result _ _ (λ r is. all_searched _ c.in_ok-work.work r.0 one is) c.search_from.ensures.searched

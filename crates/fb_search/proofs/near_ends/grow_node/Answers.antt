@@ -12,6 +12,6 @@ grow-requires g c =
 pub returns : goal.returns
 returns g c =
     c.grow.ensures
-    ∙ ap (λ nodes. record { scope = c.args.regions.now.scope; nodes = nodes })
+    ∙ ap (λ nodes. record c.args.regions.now { nodes = nodes })
     (node_grown (g.S.Scope.problem c.args.regions.now.scope) c.args.node c.args.length c.args.regions.now.nodes c.requires.tree
     c.requires.may)

@@ -85,6 +85,7 @@ returns c =
         plan = own.plan;
         node = own.node;
         defects = c.requires.scope.defects;
+        rest = record { plus = c.requires.scope.rest.plus; minus = c.requires.scope.rest.minus };
         listed =
             near_met_listed part c.in_ok-link.link made.walk c.link_between.new.links c.requires.part made.adds c.args.root c.args.pair.other
             c.args.parts.now.seams c.requires.scope.listed;

@@ -76,6 +76,7 @@ returns c =
         plan = own.plan;
         node = own.node;
         defects = c.requires.scope.defects;
+        rest = record { plus = c.requires.scope.rest.plus; minus = c.requires.scope.rest.minus };
         listed =
             near_out_listed part c.in_ok-link.link made.walk c.link_out.new.links c.requires.part made.adds c.args.root c.args.parts.now.seams c.list.new.self
             c.far_owner-owner.result c.requires.scope.listed c.in_ok-list.ensures

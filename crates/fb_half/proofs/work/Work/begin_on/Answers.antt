@@ -28,7 +28,8 @@ invariant_of-result c = (
       (c.in_ok-start.ensures.job ∙ ap (λ w. w.job) c.in_ok-parts.ensures.value)
       (c.in_ok-start.ensures.slot ∙ ap (λ w. w.slot) c.in_ok-parts.ensures.value)
       (c.in_ok-start.ensures.node ∙ ap (λ w. w.node) c.in_ok-parts.ensures.value)
-      c.in_ok-own.ensures.given),
+      c.in_ok-own.ensures.given)
+      (c.in_ok-start.ensures.rest c.in_ok-parts.ensures.rest),
   begun_of (part_of c.start.new.parts) c.args.job.now c.args.slot c.args.node c.deref.result.now c.state_begins.ensures.part
       (c.in_ok-start.ensures.job ∙ ap (λ w. w.job) c.in_ok-parts.ensures.value)
       (c.in_ok-start.ensures.slot ∙ ap (λ w. w.slot) c.in_ok-parts.ensures.value)

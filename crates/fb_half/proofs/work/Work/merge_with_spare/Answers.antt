@@ -15,6 +15,7 @@ use Rattle.fb_half.specs.Merged.{renamed_match, shot_seam}
 use Rattle.fb_half.specs.Merged as promised
 use Rattle.fb_half.specs.Parts.{IsPart, PartValue, graph_in, shot_of}
 use Rattle.fb_half.specs.Values.{IsScopeOf, part_of}
+use Rattle.fb_regions.specs.Paces.{IsAtRest}
 use Rattle.fb_half.proofs.BesideNodes.{new_names}
 use Rattle.fb_half.proofs.FusedHalves.{fused_part}
 use Rattle.fb_half.proofs.FusedMatches.{merged_is}
@@ -171,6 +172,10 @@ invariant_of-result c =
             (subst (λ l. IsRisingUnion (c.in_ok-merged.merged.parts.defects.items ++ c.in_ok-merged.merged.other_defects.items) l c.complete.new.merged.parts.defects.items)
             (λ i. shot_seam (c.in_ok-merged.ensures.job i) (c.in_ok-merged.ensures.slot i) ((c.in_ok-merged.ensures.node ∙ c.scope-scope.ensures.node) i))
             c.in_ok-complete.ensures.defects);
+        rest =
+            c.in_ok-complete.ensures.rest
+            (subst IsAtRest (sym c.in_ok-merged.ensures.regions)
+            (record { plus = c.into_parts-left.ensures.scope.rest.plus; minus = c.into_parts-left.ensures.scope.rest.minus }));
       },
       fused_part (part_of c.into_parts-left.result) (part_of c.into_parts-right.result) c.args.node h.limits h.children h.one h.two h.matched h.also
           c.in_ok-merged.merged.link_names.items c.in_ok-merged.merged.names.items c.in_ok-merged.merged.parts.links c.in_ok-merged.merged.parts.blossoms c.in_ok-merged.ensures.links stores

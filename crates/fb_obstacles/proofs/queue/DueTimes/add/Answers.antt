@@ -1,5 +1,3 @@
-use Rattle.std.proofs.Common.{◌≡◌, subst, ap, sym, ◌∷◌}
-use Rattle.std.specs.List.Sorted.{IsPermutation}
 use Rattle.std.specs.BinaryHeap.{heap_items}
 use Rattle.fb_obstacles.specs.InternalHeap.{due_times}
 use Rattle.fb_obstacles.proofs.DueLists.{put_is_due, put_still_due}

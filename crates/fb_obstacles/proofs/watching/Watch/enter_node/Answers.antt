@@ -1,4 +1,4 @@
-use Rattle.std.proofs.Common.{◌∙◌, ◌+◌, ◌*◌, ◌≤◌, refl, arith}
+use Rattle.std.proofs.Common.{◌*◌, refl}
 use Rattle.fb_obstacles.proofs.NodeBounds.{bounds_kept, due_bound}
 use Rattle.fb_obstacles.proofs.watching.Watch.enter_node.Goals as goal
 

@@ -1,4 +1,4 @@
-use Rattle.std.proofs.Common.{ℕ, ◌<◌, List, take, ap}
+use Rattle.std.proofs.Common.{◌<◌, take}
 use Rattle.std.proofs.lemmas.List.Elements.{All-take}
 use Rattle.indexmap.specs.IndexMap.{keys, values}
 use Rattle.fb_obstacles.proofs.NodeBounds.{nodes_lowered}

@@ -1,4 +1,4 @@
-use Rattle.std.proofs.Common.{◌*◌, ◌+◌, refl, arith}
+use Rattle.std.proofs.Common.{◌*◌, refl, arith}
 use Rattle.fb_obstacles.proofs.NodeBounds.{first_least, first_raised, others_kept}
 use Rattle.fb_obstacles.proofs.watching.Watch.settle_first_node.Goals as goal
 

@@ -1,18 +1,16 @@
-use Rattle.std.proofs.Common.{◌≡◌, ◌==◌, not, ap, ◌∙◌, Some, None, true}
-use Rattle.fb_graph.specs.Dual.{is_empty, is_live}
-use Rattle.fb_regions.specs.InternalNodes.{nodes_of}
-use Rattle.fb_regions.proofs.Found.{always_found, found, read_place}
+use Rattle.std.proofs.Common.{◌==◌, not, ap, ◌∙◌}
+use Rattle.fb_graph.specs.Dual.{is_empty}
+use Rattle.fb_regions.proofs.ClockFound.{always_placed, found_at}
 use Rattle.fb_regions.proofs.Readings.{empty_as_length}
 use Rattle.fb_regions.proofs.regions.Regions.is_joined.Goals as goal
 
 pub unreachable-requires : goal.unreachable-requires
 unreachable-requires g c =
-    let live : is_live (nodes_of c.self.inside.marks c.self.inside.regions.items) c.args.node ≡ true = rw (← c.self.view_is) at c.requires in
-    absurd (always_found c.self.inside.marks c.self.inside.regions.items c.args.node live
-    (read_place c.self.inside.regions.items _ _ c.args.node None c.self.invariant.1 c.deref.ensures.value c.in_default.ensures))
+    absurd (always_placed c.self.inside.clock c.self.inside.marks c.self.inside.regions.items _ _ c.args.node (rw (← c.self.view_is) at c.requires) c.self.invariant.1
+    c.deref.ensures.value c.in_default.ensures)
 
 pub returns : goal.returns
 returns g c =
-    let at = found c.self.inside.marks c.self.inside.regions.items c.args.node c.in-Some.place _
-    (read_place c.self.inside.regions.items _ _ c.args.node (Some c.in-Some.place) c.self.invariant.1 c.deref.ensures.value c.in-Some.ensures) c.index.ensures in
+    let at = found_at c.self.inside.clock c.self.inside.marks c.self.inside.regions.items _ _ c.args.node c.in-Some.place _ c.self.invariant.1 c.deref.ensures.value
+    c.in-Some.ensures c.index.ensures in
     rw (← c.self.view_is) (ap not (c.is_empty.ensures ∙ (ap (λ k. k == 0) c.index.result.now.children.ok.0 ∙ empty_as_length c.index.result.now.children.items)) ∙ ap (λ n. not (is_empty n.children)) at.is)

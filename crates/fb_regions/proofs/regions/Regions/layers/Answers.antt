@@ -1,17 +1,23 @@
-use Rattle.std.proofs.Common.{◌≡◌, Some, None, true}
-use Rattle.fb_graph.specs.Dual.{is_live}
-use Rattle.fb_regions.specs.InternalNodes.{nodes_of}
-use Rattle.fb_regions.proofs.Found.{always_found, found, read_place}
+use Rattle.fb_regions.proofs.ClockFound.{always_placed, among_placed, begun_among, fits_at, found_at}
 use Rattle.fb_regions.proofs.regions.Regions.layers.Goals as goal
 
 pub unreachable-requires : goal.unreachable-requires
 unreachable-requires g c =
-    let live : is_live (nodes_of c.self.inside.marks c.self.inside.regions.items) c.args.node ≡ true = rw (← c.self.view_is) at c.requires in
-    absurd (always_found c.self.inside.marks c.self.inside.regions.items c.args.node live
-    (read_place c.self.inside.regions.items _ _ c.args.node None c.self.invariant.1 c.deref.ensures.value c.in_default.ensures))
+    absurd (always_placed c.self.inside.clock c.self.inside.marks c.self.inside.regions.items _ _ c.args.node (rw (← c.self.view_is) at c.requires) c.self.invariant.1
+    c.deref.ensures.value c.in_default.ensures)
+
+pub layers-requires-clause-begun : goal.layers-requires-clause-begun
+layers-requires-clause-begun g c =
+    begun_among c.self.inside.clock c.self.inside.regions.items _ c.self.invariant.2
+    (among_placed c.self.inside.marks c.self.inside.regions.items _ _ c.args.node c.in-Some.place _ c.self.invariant.1 c.deref.ensures.value c.in-Some.ensures c.index.ensures)
+
+pub layers-requires-clause-fits : goal.layers-requires-clause-fits
+layers-requires-clause-fits g c =
+    (fits_at _ c.self.inside.clock c.self.inside.regions.items _ c.self.invariant.0 _
+    (among_placed c.self.inside.marks c.self.inside.regions.items _ _ c.args.node c.in-Some.place _ c.self.invariant.1 c.deref.ensures.value c.in-Some.ensures c.index.ensures)).top
 
 pub returns : goal.returns
 returns g c =
-    let at = found c.self.inside.marks c.self.inside.regions.items c.args.node c.in-Some.place _
-    (read_place c.self.inside.regions.items _ _ c.args.node (Some c.in-Some.place) c.self.invariant.1 c.deref.ensures.value c.in-Some.ensures) c.index.ensures in
+    let at = found_at c.self.inside.clock c.self.inside.marks c.self.inside.regions.items _ _ c.args.node c.in-Some.place _ c.self.invariant.1 c.deref.ensures.value
+    c.in-Some.ensures c.index.ensures in
     rw (← c.self.view_is, ← at.layers) c.layers.ensures

@@ -1,22 +1,31 @@
-use Rattle.std.proofs.Common.{◌≡◌, length, ap, ◌∙◌, Some, None, true}
+use Rattle.std.proofs.Common.{◌≡◌, length, sym, ap, ◌∙◌, subst, Some, None}
 use Rattle.std.specs.List.{remove}
-use Rattle.fb_graph.specs.Dual.{is_live}
-use Rattle.fb_regions.specs.InternalNodes.{reparented_region, nodes_of}
+use Rattle.fb_graph.specs.Certificate.{AreDistinct}
+use Rattle.fb_regions.specs.declared.roles.Role.TheVariants.{Out}
+use Rattle.fb_regions.specs.InternalClock.{all_at}
+use Rattle.fb_regions.specs.InternalKept.{IsKept}
+use Rattle.fb_regions.specs.InternalNodes.{nodes_of, reparented_region}
+use Rattle.fb_regions.specs.Paces.{grows, shrinks}
+use Rattle.fb_regions.proofs.ByName.{first_placed, names, removed_distinct}
+use Rattle.fb_regions.proofs.ClockChanges.{read_place_at}
+use Rattle.fb_regions.proofs.ClockLists.{all_split, begun_adopted, begun_removed, paced_same, paced_split}
+use Rattle.fb_regions.proofs.ClockReadings.{names_at, read_at_time}
 use Rattle.fb_regions.proofs.Found.{always_found, mapped_back, read_place}
-use Rattle.fb_regions.proofs.ByName.{removed_distinct}
 use Rattle.fb_regions.proofs.Indexed.{distinct_names, index_adopted, removed_before, removed_within}
+use Rattle.fb_regions.proofs.PaceNames.{pace_found, pace_read}
 use Rattle.fb_regions.proofs.Split.{kept_split, nodes_split}
 use Rattle.fb_regions.proofs.regions.Regions.split_node.Goals as goal
 
 pub unreachable-requires : goal.unreachable-requires
 unreachable-requires g c =
-    let may = rw (← c.self.view_is) at c.requires in
-    let live : is_live (nodes_of c.self.inside.marks c.self.inside.regions.items) c.args.node ≡ true = may.live in
-    absurd (always_found c.self.inside.marks c.self.inside.regions.items c.args.node live
-    (read_place c.self.inside.regions.items _ _ c.args.node None c.self.invariant.1 c.deref.ensures.value c.in_default.ensures))
+    let may = rw (← c.self.view_is) at c.requires.empty in
+    absurd (always_found c.self.inside.marks (all_at c.self.inside.clock c.self.inside.regions.items) c.args.node may.live
+    (read_place_at c.self.inside.clock c.self.inside.regions.items _ _ c.args.node None c.self.invariant.1 c.deref.ensures.value c.in_default.ensures))
 
 pub invariant_of-self : goal.invariant_of-self
 invariant_of-self g c =
+    let at = read_place c.self.inside.regions.items _ _ c.args.node (Some c.in-Some.place) c.self.invariant.1 c.deref.ensures.value c.in-Some.ensures in
+    let less = (first_placed c.self.inside.regions.items c.args.node c.in-Some.place at).0 in
     rw (
       c.adopt.ensures,
       c.deref_mut.ensures.value,
@@ -25,26 +34,34 @@ invariant_of-self g c =
       mapped_back (reparented_region c.remove-blossom.result.children.items None) (remove c.self.inside.regions.items c.in-Some.place) c.remove-blossom.new.self.len
           (c.remove-blossom.new.self.ok.0 ∙ ap length c.remove-blossom.ensures.items),
     ) (
-      kept_split _ _ _ c.self.invariant.0 c.args.node c.in-Some.place c.remove-blossom.result
-          (read_place c.self.inside.regions.items _ _ c.args.node (Some c.in-Some.place) c.self.invariant.1 c.deref.ensures.value c.in-Some.ensures) c.remove-blossom.ensures.value
-          (rw (← c.self.view_is) at c.requires),
+      subst (λ l. IsKept (g.S.Scope.problem c.self.inside.scope) l c.self.inside.marks)
+          (sym (all_split c.self.inside.clock c.self.inside.regions.items c.in-Some.place c.remove-blossom.result.children.items None))
+          (kept_split _ _ _ c.self.invariant.0 c.args.node c.in-Some.place _
+          (read_place_at c.self.inside.clock c.self.inside.regions.items _ _ c.args.node (Some c.in-Some.place) c.self.invariant.1 c.deref.ensures.value c.in-Some.ensures)
+          (read_at_time c.self.inside.clock c.self.inside.regions.items c.in-Some.place c.remove-blossom.result less c.remove-blossom.ensures.value)
+          (rw (← c.self.view_is) at c.requires.empty)),
       index_adopted _ _ c.remove-blossom.result.children.items None (rw (c.deref-2.ensures.value, c.remove-blossom.ensures.items) at c.enter_from.ensures),
+      begun_adopted c.self.inside.clock c.remove-blossom.result.children.items None (remove c.self.inside.regions.items c.in-Some.place)
+          (begun_removed c.self.inside.clock c.self.inside.regions.items c.in-Some.place c.self.invariant.2),
     )
 
 pub enter_from-requires-clause-within : goal.enter_from-requires-clause-within
 enter_from-requires-clause-within g c =
+    let distinct = subst AreDistinct (names_at c.self.inside.clock c.self.inside.regions.items) (distinct_names _ _ _ c.self.invariant.0) in
     rw (c.deref-2.ensures.value, c.remove-blossom.ensures.items)
-    (removed_within _ _ _ c.self.invariant.0 _ c.self.invariant.1 c.in-Some.place _ c.set_place.ensures.count)
+    (removed_within c.self.inside.regions.items distinct _ c.self.invariant.1 c.in-Some.place _ c.set_place.ensures.count)
 
 pub enter_from-requires-clause-distinct : goal.enter_from-requires-clause-distinct
 enter_from-requires-clause-distinct g c =
+    let distinct = subst AreDistinct (names_at c.self.inside.clock c.self.inside.regions.items) (distinct_names _ _ _ c.self.invariant.0) in
     rw (c.deref-2.ensures.value, c.remove-blossom.ensures.items)
-    (removed_distinct c.self.inside.regions.items c.in-Some.place (distinct_names _ _ _ c.self.invariant.0))
+    (removed_distinct c.self.inside.regions.items c.in-Some.place distinct)
 
 pub enter_from-requires-clause-before : goal.enter_from-requires-clause-before
 enter_from-requires-clause-before g c =
+    let distinct = subst AreDistinct (names_at c.self.inside.clock c.self.inside.regions.items) (distinct_names _ _ _ c.self.invariant.0) in
     rw (c.deref-2.ensures.value, c.remove-blossom.ensures.items)
-    (removed_before _ _ _ c.self.invariant.0 _ c.self.invariant.1 c.in-Some.place c.args.node c.remove-blossom.result
+    (removed_before c.self.inside.regions.items distinct _ c.self.invariant.1 c.in-Some.place c.args.node c.remove-blossom.result
     (read_place c.self.inside.regions.items _ _ c.args.node (Some c.in-Some.place) c.self.invariant.1 c.deref.ensures.value c.in-Some.ensures)
     c.remove-blossom.ensures.value _ c.set_place.ensures.entries)
 
@@ -55,11 +72,18 @@ adopt-requires-clause-index g c =
 
 pub adopt-requires-clause-distinct : goal.adopt-requires-clause-distinct
 adopt-requires-clause-distinct g c =
+    let distinct = subst AreDistinct (names_at c.self.inside.clock c.self.inside.regions.items) (distinct_names _ _ _ c.self.invariant.0) in
     rw (c.deref_mut.ensures.value, c.remove-blossom.ensures.items)
-    (removed_distinct c.self.inside.regions.items c.in-Some.place (distinct_names _ _ _ c.self.invariant.0))
+    (removed_distinct c.self.inside.regions.items c.in-Some.place distinct)
 
 pub returns-clause-ok : goal.returns-clause-ok
 returns-clause-ok g c =
+    let at = read_place c.self.inside.regions.items _ _ c.args.node (Some c.in-Some.place) c.self.invariant.1 c.deref.ensures.value c.in-Some.ensures in
+    let less = (first_placed c.self.inside.regions.items c.args.node c.in-Some.place at).0 in
+    let distinct : AreDistinct (names c.self.inside.regions.items) = subst AreDistinct (names_at c.self.inside.clock c.self.inside.regions.items) (distinct_names _ _ _ c.self.invariant.0) in
+    let rest : c.remove-blossom.result.pace ≡ Out =
+    sym (pace_found c.self.inside.regions.items c.args.node c.in-Some.place c.remove-blossom.result at c.remove-blossom.ensures.value)
+    ∙ (sym (pace_read c.self.inside.regions.items c.args.node distinct) ∙ (rw (← c.self.view_is) at c.requires.rest)) in
     rw (
       ← c.self.view_is,
       c.adopt.ensures,
@@ -69,7 +93,11 @@ returns-clause-ok g c =
       mapped_back (reparented_region c.remove-blossom.result.children.items None) (remove c.self.inside.regions.items c.in-Some.place) c.remove-blossom.new.self.len
           (c.remove-blossom.new.self.ok.0 ∙ ap length c.remove-blossom.ensures.items),
     )
-    (ap (λ ns. record { scope = c.self.inside.scope; nodes = ns })
-    (nodes_split _ _ _ c.self.invariant.0 c.args.node c.in-Some.place c.remove-blossom.result
-    (read_place c.self.inside.regions.items _ _ c.args.node (Some c.in-Some.place) c.self.invariant.1 c.deref.ensures.value c.in-Some.ensures) c.remove-blossom.ensures.value
-    (rw (← c.self.view_is) at c.requires)))
+    (paced_same _ _ _ _ _ _ _
+    (ap (nodes_of c.self.inside.marks) (all_split c.self.inside.clock c.self.inside.regions.items c.in-Some.place c.remove-blossom.result.children.items None)
+    ∙ nodes_split _ _ _ c.self.invariant.0 c.args.node c.in-Some.place _
+    (read_place_at c.self.inside.clock c.self.inside.regions.items _ _ c.args.node (Some c.in-Some.place) c.self.invariant.1 c.deref.ensures.value c.in-Some.ensures)
+    (read_at_time c.self.inside.clock c.self.inside.regions.items c.in-Some.place c.remove-blossom.result less c.remove-blossom.ensures.value)
+    (rw (← c.self.view_is) at c.requires.empty))
+    (paced_split grows c.self.inside.regions.items c.in-Some.place c.remove-blossom.result.children.items None c.remove-blossom.result c.remove-blossom.ensures.value less (ap grows rest))
+    (paced_split shrinks c.self.inside.regions.items c.in-Some.place c.remove-blossom.result.children.items None c.remove-blossom.result c.remove-blossom.ensures.value less (ap shrinks rest)))

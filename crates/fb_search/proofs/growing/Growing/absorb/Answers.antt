@@ -12,25 +12,26 @@ use Rattle.fb_search.specs.InternalGrowing.{GrowingValue, roles_among}
 use Rattle.fb_search.proofs.BegunSearches.{kept_limits}
 use Rattle.fb_search.proofs.GrowingLayers.{AbsorbsAt, absorbed_are, absorbs_at, growing_taller, grows_on_taller, inner_is_held, outer_is_free, taken_is, taken_real}
 use Rattle.fb_search.proofs.TakenVertices.{kept_taken}
+use Rattle.fb_search.proofs.PacedTrees.{paced_moved}
 use Rattle.fb_search.proofs.growing.Growing.absorb.Goals as goal
 
 pub absorb-requires-clause-inner : goal.absorb-requires-clause-inner
 absorb-requires-clause-inner c =
     let w : GrowingValue = record { part = part_of c.self.inside.parts; forest = c.self.inside.forest; watched = c.self.inside.watch } in
     let a : AbsorbsAt (problem_in w.part) (roles_among w.forest) w.part.nodes c.args.edge = absorbs_at _ _ _ c.args.edge (rw (← c.self.view_is) at c.requires) in
-    inner_is_held _ _ _ c.args.edge a _ (ap (λ g. g.edges) c.self.invariant.0.graph)
+    inner_is_held _ _ _ c.args.edge a _ (ap (λ g. g.edges) c.self.invariant.0.scope.graph)
 
 pub absorb-requires-clause-outer : goal.absorb-requires-clause-outer
 absorb-requires-clause-outer c =
     let w : GrowingValue = record { part = part_of c.self.inside.parts; forest = c.self.inside.forest; watched = c.self.inside.watch } in
     let a : AbsorbsAt (problem_in w.part) (roles_among w.forest) w.part.nodes c.args.edge = absorbs_at _ _ _ c.args.edge (rw (← c.self.view_is) at c.requires) in
-    outer_is_free _ _ _ c.args.edge a _ (ap (λ g. g.edges) c.self.invariant.0.graph)
+    outer_is_free _ _ _ c.args.edge a _ (ap (λ g. g.edges) c.self.invariant.0.scope.graph)
 
 pub watch_taken-requires-clause-below : goal.watch_taken-requires-clause-below
 watch_taken-requires-clause-below c =
     let w : GrowingValue = record { part = part_of c.self.inside.parts; forest = c.self.inside.forest; watched = c.self.inside.watch } in
     let a : AbsorbsAt (problem_in w.part) (roles_among w.forest) w.part.nodes c.args.edge = absorbs_at _ _ _ c.args.edge (rw (← c.self.view_is) at c.requires) in
-    let scope = c.self.invariant.0 in
+    let scope = c.self.invariant.0.scope in
     let graph = ap scope_graph c.scope.ensures ∙ scope.graph in
     let plan = ap (λ s. s.plan.now) c.scope.ensures ∙ scope.plan in
     let node = ap (λ s. s.node) c.scope.ensures ∙ scope.node in
@@ -46,7 +47,7 @@ invariant_of-self c =
     let p : Problem = problem_in w.part in
     let roles : Roles = roles_among w.forest in
     let a : AbsorbsAt p roles w.part.nodes c.args.edge = absorbs_at p roles w.part.nodes c.args.edge (rw (← c.self.view_is) at c.requires) in
-    let scope = c.self.invariant.0 in
+    let scope = c.self.invariant.0.scope in
     let graph = ap scope_graph c.scope.ensures ∙ scope.graph in
     let plan = ap (λ s. s.plan.now) c.scope.ensures ∙ scope.plan in
     let node = ap (λ s. s.node) c.scope.ensures ∙ scope.node in
@@ -54,7 +55,7 @@ invariant_of-self c =
     kept_limits w.part (scope_graph c.scope.result.now) c.scope.result.now.plan.now c.scope.result.now.node graph plan node c.limits.ensures in
     let at = taken_is p roles w.part.nodes c.args.edge a _ (ap (λ g. g.edges) graph) c.free_end-taken.result c.free_end-taken.ensures in
     rw (c.absorb.ensures, absorbed_are p roles w.part.nodes c.args.edge a _ (ap (λ g. g.edges) scope.graph)) (
-      record { graph = scope.graph; plan = scope.plan; node = scope.node; listed = scope.listed; defects = scope.defects },
+      paced_moved c.self.inside.parts w.forest (absorbed_nodes a.name a.to w.part.nodes) c.self.invariant.0,
       growing_taller forest_state_absorbed w c.args.edge a.from a.to a.name c.watch_taken.new.watch c.self.invariant.1 limits a.may a.plus
           c.keeps.ensures.within
           (kept_taken w.part (scope_graph c.scope.result.now) c.scope.result.now.plan.now c.scope.result.now.node c.free_end-taken.result a.to _ _
@@ -68,7 +69,7 @@ returns c =
     let p : Problem = problem_in w.part in
     let roles : Roles = roles_among w.forest in
     let a : AbsorbsAt p roles w.part.nodes c.args.edge = absorbs_at p roles w.part.nodes c.args.edge (rw (← c.self.view_is) at c.requires) in
-    let scope = c.self.invariant.0 in
+    let scope = c.self.invariant.0.scope in
     let graph = ap scope_graph c.scope.ensures ∙ scope.graph in
     let plan = ap (λ s. s.plan.now) c.scope.ensures ∙ scope.plan in
     let node = ap (λ s. s.node) c.scope.ensures ∙ scope.node in

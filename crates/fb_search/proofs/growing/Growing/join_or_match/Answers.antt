@@ -15,7 +15,7 @@ into_growing-requires c =
       | then-are_together x ↦ rw (x.done-is, x.pieces-is) x.close-done.ensures
       | else-are_together x ↦ rw (x.done-is, x.pieces-is) x.match_trees-done.ensures
     ] in
-    IfOk-weaker _ _ _ (λ _ (are : AreGrowing w c.if-are_together.pieces). (are.scope, are.keeps)) both
+    IfOk-weaker _ _ _ (λ _ (are : AreGrowing w c.if-are_together.pieces). (are.paced, are.keeps)) both
 
 pub returns : goal.returns
 returns c =

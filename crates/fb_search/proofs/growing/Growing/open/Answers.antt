@@ -11,7 +11,7 @@ open_node-done-requires-clause-empty c = rw (← c.self.view_is) at c.requires
 pub into_growing-requires : goal.into_growing-requires
 into_growing-requires c =
     let w : GrowingValue = record { part = part_of c.self.inside.parts; forest = c.self.inside.forest; watched = c.self.inside.watch } in
-    IfOk-weaker _ _ _ (λ _ (are : AreGrowing w c.open_node-done.new.pieces). (are.scope, are.keeps)) c.open_node-done.ensures
+    IfOk-weaker _ _ _ (λ _ (are : AreGrowing w c.open_node-done.new.pieces). (are.paced, are.keeps)) c.open_node-done.ensures
 
 pub returns : goal.returns
 returns c =

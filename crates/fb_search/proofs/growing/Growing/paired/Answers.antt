@@ -8,13 +8,13 @@ use Rattle.fb_search.proofs.growing.Growing.paired.Goals as goal
 pub over_ends-requires-clause-covered : goal.over_ends-requires-clause-covered
 over_ends-requires-clause-covered c =
     let w : GrowingValue = record { part = part_of c.self.inside.parts; forest = c.self.inside.forest; watched = c.self.inside.watch } in
-    paired_held w c.args.edge _ (ap (λ g. g.edges) c.self.invariant.0.graph) (rw (← c.self.view_is) at c.requires)
+    paired_held w c.args.edge _ (ap (λ g. g.edges) c.self.invariant.0.scope.graph) (rw (← c.self.view_is) at c.requires)
 
 pub returns : goal.returns
 returns c =
     let w : GrowingValue = record { part = part_of c.self.inside.parts; forest = c.self.inside.forest; watched = c.self.inside.watch } in
     let pair : IsGrowingPair w c.args.edge c.over_ends.result.0 c.over_ends.result.1 =
-    paired_over w c.args.edge c.over_ends.result.0 c.over_ends.result.1 _ (ap (λ g. g.edges) c.self.invariant.0.graph)
+    paired_over w c.args.edge c.over_ends.result.0 c.over_ends.result.1 _ (ap (λ g. g.edges) c.self.invariant.0.scope.graph)
     c.over_ends.ensures.first c.over_ends.ensures.second (rw (← c.self.view_is) at c.requires) in
     rw (← c.self.view_is)
     (record {

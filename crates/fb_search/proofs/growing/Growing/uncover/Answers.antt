@@ -10,6 +10,7 @@ use Rattle.fb_search.specs.InternalGrowing.{GrowingValue}
 use Rattle.fb_search.proofs.BegunSearches.{kept_limits}
 use Rattle.fb_search.proofs.GrowingLayers.{growing_lower, grows_on_lower, last_is_below}
 use Rattle.fb_search.proofs.TakenVertices.{kept_taken}
+use Rattle.fb_search.proofs.PacedTrees.{paced_moved}
 use Rattle.fb_search.proofs.growing.Growing.uncover.Goals as goal
 
 pub last_vertex-freed-requires : goal.last_vertex-freed-requires
@@ -22,7 +23,7 @@ pub watch_taken-requires-clause-below : goal.watch_taken-requires-clause-below
 watch_taken-requires-clause-below c =
     let w : GrowingValue = record { part = part_of c.self.inside.parts; forest = c.self.inside.forest; watched = c.self.inside.watch } in
     let may = rw (← c.self.view_is) at c.requires in
-    let scope = c.self.invariant.0 in
+    let scope = c.self.invariant.0.scope in
     let graph = ap scope_graph c.scope.ensures ∙ scope.graph in
     let limits : IsWithinLimits (problem_in w.part) =
     kept_limits w.part (scope_graph c.scope.result.now) c.scope.result.now.plan.now c.scope.result.now.node graph
@@ -34,10 +35,10 @@ pub invariant_of-self : goal.invariant_of-self
 invariant_of-self c =
     let w : GrowingValue = record { part = part_of c.self.inside.parts; forest = c.self.inside.forest; watched = c.self.inside.watch } in
     let may = rw (← c.self.view_is) at c.requires in
-    let scope = c.self.invariant.0 in
+    let scope = c.self.invariant.0.scope in
     let graph = ap scope_graph c.scope.ensures ∙ scope.graph in
     rw c.uncover.ensures (
-      record { graph = scope.graph; plan = scope.plan; node = scope.node; listed = scope.listed; defects = scope.defects },
+      paced_moved c.self.inside.parts w.forest (uncovered_nodes c.args.node w.part.nodes) c.self.invariant.0,
       growing_lower forest_state_uncovered w c.args.node c.last_vertex-freed.result c.watch_taken.new.watch c.self.invariant.1 may.0 may.1
           c.last_vertex-freed.ensures.last c.keeps.ensures.within
           (kept_taken w.part (scope_graph c.scope.result.now) c.scope.result.now.plan.now c.scope.result.now.node c.last_vertex-freed.result

@@ -1,14 +1,14 @@
--- What a step of a tree, made node by node, asks for.
-use Rattle.std.specs.Prelude.{ℕ, ◌≡◌, true, List, [], ◌∷◌, ◌++◌, map}
+-- The nodes of trees, over which a step is made.
+use Rattle.std.specs.Prelude.{ℕ, ◌≡◌, true, List, [], ◌∷◌}
 use Rattle.fb_graph.specs.Parity.{is_in}
 use Rattle.fb_graph.specs.Problem.{Problem}
 use Rattle.fb_graph.specs.Certificate.{AreDistinct}
 use Rattle.fb_graph.specs.Dual.{IsCrossed, Node, is_live, top_at}
-use Rattle.fb_graph.specs.Steps.{MayStep, Roles, stepped_nodes}
+use Rattle.fb_graph.specs.Steps.{Roles}
 use Rattle.fb_graph.specs.Covers.{AreRoles}
 use Rattle.fb_laws.specs.Trees.{minus_names, plus_names, roles_of}
-use Rattle.fb_trees.specs.declared.branch.Branch.{Branch}
 use Rattle.fb_trees.specs.Branches.{Grown}
+use Rattle.fb_trees.specs.declared.branch.Branch.{Branch}
 use Rattle.fb_trees.specs.Forests.{all_minus, all_plus}
 
 -- the roles of the nodes of these names
@@ -24,23 +24,6 @@ pub record AreOver (p : Problem) (plus minus : List ℕ) (nodes : List Node) : T
   pub minus_live : (name : ℕ) → is_in minus name ≡ true → is_live nodes name ≡ true
   pub crossed : (name : ℕ) → is_in plus name ≡ true → IsCrossed p (top_at nodes name)
 
--- Of a step by that length all minus nodes have shrunk that are named before, and the branches' nodes are next.
-pub record IsShrinking (p : Problem) (plus minus done : List ℕ) (nodes : List Node) (bs : List Branch) (k : ℕ) (now : List Node) : Type 0 where
-  pub are : AreOver p plus minus nodes
-  pub may : MayStep p (roles_by_names plus minus) nodes k
-  pub now_is : now ≡ stepped_nodes (roles_by_names [] done) k nodes
-  pub within : (name : ℕ) → is_in (map (λ b. b.minus) bs) name ≡ true → is_in minus name ≡ true
-  pub once : AreDistinct (done ++ map (λ b. b.minus) bs)
-
--- All minus nodes have shrunk, and the plus nodes named before have grown; the root and the branches' nodes are next.
-pub record IsGrowing (p : Problem) (plus minus done : List ℕ) (nodes : List Node) (root : ℕ) (bs : List Branch) (k : ℕ) (now : List Node) : Type 0 where
-  pub are : AreOver p plus minus nodes
-  pub may : MayStep p (roles_by_names plus minus) nodes k
-  pub now_is : now ≡ stepped_nodes (roles_by_names done minus) k nodes
-  pub before : (name : ℕ) → is_in done name ≡ true → is_in plus name ≡ true
-  pub within : (name : ℕ) → is_in (root ∷ map (λ b. b.plus) bs) name ≡ true → is_in plus name ≡ true
-  pub once : AreDistinct (done ++ root ∷ map (λ b. b.plus) bs)
-
 -- the same of all trees
 abbrev pub AreTreesOver : Problem → List Grown → List Node → Type 0
 AreTreesOver p trees nodes = AreOver p (all_plus trees) (all_minus trees) nodes
@@ -53,3 +36,8 @@ pub record IsTreeOver (p : Problem) (t : Grown) (nodes : List Node) : Type 0 whe
   pub plus_live : (name : ℕ) → is_in (plus_names t.root t.branches) name ≡ true → is_live nodes name ≡ true
   pub minus_live : (name : ℕ) → is_in (minus_names t.branches) name ≡ true → is_live nodes name ≡ true
   pub crossed : (name : ℕ) → is_in (plus_names t.root t.branches) name ≡ true → IsCrossed p (top_at nodes name)
+
+-- the nodes of the branches
+abbrev pub branch_names : List Branch → List ℕ
+branch_names [] = []
+branch_names (b ∷ bs) = b.minus ∷ b.plus ∷ branch_names bs
