@@ -20,7 +20,9 @@ from measuring import (
     least_in_turn,
     plan_by_rounds,
     print_growth_power,
+    print_head,
     print_line,
+    print_remark,
     rounds_lattice,
     run_once,
     seconds_of,
@@ -67,7 +69,7 @@ def measure_workers(name, graph, rate, units, shots, folder):
 
 def bench_workers(folder, quick):
     crews = [f"{workers}w {window}" for workers, window in CREWS[1:]]
-    print_line("faster by workers and window", ["units", "us/shot", *crews, f"{PROCESSES} runs"])
+    print_head("faster by workers and window", ["units", "us/shot", *crews, f"{PROCESSES} runs"])
     for distance in [9] if quick else [9, 13, 21]:
         for rate in [0.001, 0.005]:
             shots = max(64, round((300_000 if quick else 60_000_000) * 0.001 / (rate * distance**3)))
@@ -110,9 +112,9 @@ def bench_beside(folder, quick, old):
     graph = rounds_lattice(distance, rounds)
     write_graph(graph, folder / "graph.json")
     defects = write_hit_shots(graph, 0.005, shots, folder)
-    print(f"{old}: medians of {BESIDE_TURNS} runs; {shots} shots of {defects / shots:.1f} defects")
     heads = ["units", "workers", "ms", "the same", "this one", "M instr.", "this one"]
-    print_line(f"distance {distance} rounds {rounds}", heads)
+    print_head(f"distance {distance} rounds {rounds}", heads)
+    print_remark(f"{old}: medians of {BESIDE_TURNS} runs; {shots} shots of {defects / shots:.1f} defects")
     for units in BESIDE_UNITS:
         words = decode(folder, "b8")
         if units > 1:
@@ -153,7 +155,7 @@ def measure_race(name, distance, rounds, make, shots, folder):
 
 def bench_race(folder, quick):
     plans = [f"{units} units" for units in RACE_UNITS]
-    print_line("beside copying", ["vertices", "us/shot", "of copying", "4 workers", *plans])
+    print_head("beside copying", ["vertices", "us/shot", "of copying", "4 workers", *plans])
     for rate in RATES:
 
         def hit(draw, graph, virtuals):

@@ -14,6 +14,7 @@ from measuring import (
     few_defects,
     flipped_edges,
     least_run,
+    print_head,
     print_line,
     rounds_lattice,
     write_graph,
@@ -96,7 +97,7 @@ def measure_erased(name, shots, folder, base=None, has_twin=False):
 
 def bench_erased(folder, quick):
     distance, count = (QUICK_DISTANCE, 4) if quick else (DISTANCE, 20)
-    print_line(f"distance {distance}, {count} shots", ["erased", "defects", "us/defect", "of the same", "of 3 %"])
+    print_head(f"distance {distance}, {count} shots", ["erased", "defects", "us/defect", "of the same", "of 3 %"])
     graph = rounds_lattice(distance, distance)
     write_graph(graph, folder / "graph.json")
     base = None
@@ -122,7 +123,7 @@ def few_changes(graph, count):
 
 
 def bench_few_changes(folder, quick):
-    print_line("five changes", ["edges", "shots", "us/shot", "without", "of without"])
+    print_head("five changes", ["edges", "shots", "us/shot", "without", "of without"])
     for distance in [7, 15] if quick else [7, 15, 33, 70]:
         graph = rounds_lattice(distance, distance)
         write_graph(graph, folder / "graph.json")
@@ -136,7 +137,7 @@ def bench_few_changes(folder, quick):
 
 
 def bench_tree(folder, quick):
-    print_line("weightless random tree", ["defects", "reading s", "shot s", "of reading"])
+    print_head("weightless random tree", ["defects", "reading s", "shot s", "of reading"])
     for vertices in [10_000] if quick else [20_000, 80_000]:
         graph = weightless_tree(random.Random(1), vertices)
         write_graph(graph, folder / "graph.json")
@@ -152,7 +153,7 @@ def bench_tree(folder, quick):
 
 
 def bench_lines(folder, quick):
-    print_line("JSON lines of 10,000 edges", ["megabytes", "processor s", "MB/s", "of without"])
+    print_head("JSON lines of 10,000 edges", ["megabytes", "processor s", "MB/s", "of without"])
     vertices, draw = 10_001, random.Random(1)
     write_graph(Graph(vertices, [(v, v + 1, WEIGHT) for v in range(vertices - 1)], []), folder / "graph.json")
     shots, rates = [], []

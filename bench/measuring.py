@@ -76,8 +76,41 @@ def decode(folder, form="01"):
     return [FUSION, "decode", "--graph", folder / "graph.json", "--shots", folder / "shots", "--format", form]
 
 
-def print_line(name, cells):
-    print(name.ljust(34) + "".join(cell.rjust(12) for cell in cells), flush=True)
+class Tables:
+    """Prints tables: in columns, or as Markdown, in which the remarks on a table follow it."""
+
+    def __init__(self):
+        self.are_markdown = False
+        self.remarks = []
+
+    def head(self, name, heads):
+        if not self.are_markdown:
+            return self.line(name, heads)
+        self.end()
+        self.line(name, heads)
+        print("|---|" + "--:|" * len(heads), flush=True)
+
+    def line(self, name, cells):
+        if self.are_markdown:
+            print("| " + " | ".join([name, *cells]) + " |", flush=True)
+        else:
+            print(name.ljust(34) + "".join(cell.rjust(12) for cell in cells), flush=True)
+
+    def remark(self, text):
+        if self.are_markdown:
+            self.remarks.append(text)
+        else:
+            print(f"  {text}", flush=True)
+
+    def end(self):
+        """Ends a table of Markdown, with the remarks on it."""
+        if self.are_markdown:
+            print("\n" + "".join(f"{text}.\n" for text in self.remarks), flush=True)
+            self.remarks = []
+
+
+TABLES = Tables()
+print_head, print_line, print_remark = TABLES.head, TABLES.line, TABLES.remark
 
 
 def seconds_of(words, folder):
@@ -104,7 +137,7 @@ def print_growth_power(runs):
     """How the time of a shot grows with the vertices, from each run to the next."""
     for (before, cost), (after, grown) in zip(runs, runs[1:]):
         power = math.log(grown / cost) / math.log(after / before)
-        print(f"  vertices x{after / before:.1f}: time x{grown / cost:.1f}, the power {power:.2f}")
+        print_remark(f"vertices x{after / before:.1f}: time x{grown / cost:.1f}, the power {power:.2f}")
 
 
 # Shots of many defects.

@@ -20,7 +20,9 @@ from measuring import (
     least_in_turn,
     least_run,
     plan_by_rounds,
+    print_head,
     print_line,
+    print_remark,
     rounds_lattice,
     run_once,
     seconds_of,
@@ -44,9 +46,9 @@ def bench_fusions(folder, quick):
     graph = rounds_lattice(distance, rounds)
     write_graph(graph, folder / "graph.json")
     defects = write_hit_shots(graph, rate, shots, folder)
-    print_line(f"distance {distance}, {rounds} rounds at {100 * rate:.1f} %", ["units", "us/shot", "of no plan", "peak MB"])
+    print_head(f"distance {distance}, {rounds} rounds at {100 * rate:.1f} %", ["units", "us/shot", "of no plan", "peak MB"])
     whole = least_run(decode(folder, "b8"), folder)
-    print(f"  {shots} shots of {defects / shots:.1f} defects")
+    print_remark(f"{shots} shots of {defects / shots:.1f} defects")
     for is_chain in [False, True]:
         for units in UNITS:
             plan = plan_by_rounds(distance * (distance + 1), rounds, units, is_chain)
@@ -96,7 +98,7 @@ def bench_plans(folder, quick):
     graph = rounds_lattice(distance, rounds)
     write_graph(graph, folder / "graph.json")
     heads = ["units", "us/shot", "of no plan", "us/item", "peak MB", "instructions/shot", "of no plan", "/item"]
-    print_line(f"{graph.vertices:,} vertices, {len(graph.edges):,} edges", heads)
+    print_head(f"{graph.vertices:,} vertices, {len(graph.edges):,} edges", heads)
 
     def more_defects(draw, graph, virtuals):
         return few_defects(draw, graph, virtuals, MORE_DEFECTS)
@@ -160,7 +162,7 @@ def measure_gains(distance, rounds, rate, shots, folder):
 
 def bench_gains(folder, quick):
     heads = ["window", "defects", "us/shot", "no plan", *(f"{units} units" for units in GAIN_UNITS)]
-    print_line("faster by four workers", heads)
+    print_head("faster by four workers", heads)
     for distance, rounds, shots in [(9, 90, 1_024), (9, 1_025, 128), (21, 210, 64)]:
         measure_gains(distance, rounds, 0.005, shots, folder)
     if not quick:
@@ -248,12 +250,12 @@ def measure_model(distance, rounds, shots, most_units, folder):
 
 
 def bench_planning(folder, quick):
-    print_line("a plan beside reading the graph", ["vertices", "edges", "units", "reading s", "plan", "instructions"])
+    print_head("a plan beside reading the graph", ["vertices", "edges", "units", "reading s", "plan", "instructions"])
     vertices = MOST_VERTICES // 16 if quick else MOST_VERTICES
     measure_making("edges to near vertices", NEAR, [2, 4_096], folder, vertices)
     measure_making("edges to far vertices", FAR, [2], folder, vertices)
     most_units, shots = (16, 512) if quick else (64, 1_024)
-    print_line("plans by layers beside time", ["units", "by time ms", "by layers", "instructions"])
+    print_head("plans by layers beside time", ["units", "by time ms", "by layers", "instructions"])
     for distance in [9, 13] if quick else [9, 13, 21]:
         measure_lattice(distance, max(10 * distance, 2 * most_units), shots, most_units, folder)
     measure_model(9, max(90, 2 * most_units), shots, most_units, folder)

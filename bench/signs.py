@@ -10,6 +10,7 @@ from measuring import (
     flipped_edges,
     instructions,
     least_in_turn,
+    print_head,
     print_line,
     rounds_lattice,
     run_once,
@@ -77,7 +78,7 @@ def measure(name, folder, distance, rate, count):
 def bench_signs(folder, quick):
     distances, count = (QUICK_DISTANCES, QUICK_SHOTS) if quick else (DISTANCES, SHOTS)
     heads = ["negative", "shifted", "us/defect", "plain", "of plain", "instr", "plain", "of plain"]
-    print_line(f"a tenth negative, {count} shots", heads)
+    print_head(f"a tenth negative, {count} shots", heads)
     for distance in distances:
         for rate in RATES:
             measure(f"distance {distance}, rate {rate}", folder / f"{distance}-{rate}", distance, rate, count)
