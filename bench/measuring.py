@@ -77,16 +77,18 @@ def decode(folder, form="01"):
 
 
 class Tables:
-    """Prints tables: in columns, or as Markdown, in which the remarks on a table follow it."""
+    """Prints tables: in columns, or as Markdown, in which the remarks on a table follow it as a list."""
 
     def __init__(self):
         self.are_markdown = False
+        self.is_open = False
         self.remarks = []
 
     def head(self, name, heads):
         if not self.are_markdown:
             return self.line(name, heads)
         self.end()
+        self.is_open = True
         self.line(name, heads)
         print("|---|" + "--:|" * len(heads), flush=True)
 
@@ -103,9 +105,10 @@ class Tables:
             print(f"  {text}", flush=True)
 
     def end(self):
-        """Ends a table of Markdown, with the remarks on it."""
-        if self.are_markdown:
-            print("\n" + "".join(f"{text}.\n" for text in self.remarks), flush=True)
+        """Ends a table of Markdown, if one is open, with the remarks on it."""
+        if self.is_open:
+            print("\n" + "".join(f"- {text}\n" for text in self.remarks), flush=True)
+            self.is_open = False
             self.remarks = []
 
 
