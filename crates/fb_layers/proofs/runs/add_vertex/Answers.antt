@@ -3,15 +3,15 @@ use Rattle.fb_layers.proofs.Extending.{begins_first, begins_new, extends_last}
 use Rattle.fb_layers.proofs.runs.add_vertex.Goals as goal
 use Rattle.fb_layers.proofs.runs.add_vertex.Goals.{else-count-gt0-via-then-count-gt0+else-index-vertex, else-count-gt0-via-else-count-gt0}
 
-pub returns-then-index-vertex : goal.returns-then-index-vertex
-returns-then-index-vertex c =
+pub returns-then-index-vertex-clause-added : goal.returns-then-index-vertex-clause-added
+returns-then-index-vertex-clause-added c =
     let count : c.len-count.result ≡ length c.args.ranges.now.items = omega (arith, c.len-count.ensures, c.args.ranges.now.ok.0) in
     extends_last c.args.ranges.now.items c.len-count.result c.args.vertex c.from-vertex.result c.index.result.now
     c.index_mut.result.now count c.if-count-gt0.true c.index.ensures c.if-index-vertex.true c.from-vertex.ensures
     c.index_mut.ensures.value
 
-pub returns : goal.returns
-returns c =
+pub returns-clause-added : goal.returns-clause-added
+returns-clause-added c =
     let count : c.len-count.result ≡ length c.args.ranges.now.items = omega (arith, c.len-count.ensures, c.args.ranges.now.ok.0) in
     c.in_ok-push.ensures.items
     ∙ elim c.else-count-gt0.branch [

@@ -12,7 +12,7 @@ returns-then-node-units-clause-ranges c =
     (unit_added {X = Vec (ℕ × ℕ) Global} (λ u. u.items) c.self.inside.units.items (seams_of c.self.inside.joins.items) c.args.node
     c.args.vertex c.index_mut.result.now c.add_vertex.new.ranges
     (omega (arith, c.if-node-units.true, c.len-units.ensures, c.self.inside.units.ok.0)) c.index_mut.ensures.value
-    c.in_ok-add_vertex.ensures)
+    c.in_ok-add_vertex.ensures.added)
 
 pub returns-clause-joins : goal.returns-clause-joins
 returns-clause-joins c =
@@ -47,4 +47,4 @@ returns-clause-ranges c =
     (seam_added {X = Join} (λ join. join.seam.items) (map (λ (u : Vec (ℕ × ℕ) Global). u.items) c.self.inside.units.items)
     c.self.inside.joins.items c.args.node c.len-units.result c.args.vertex c.index_mut-2.result.now
     (record { left = c.index_mut-2.result.now.left; right = c.index_mut-2.result.now.right; seam = c.add_vertex-2.new.ranges })
-    count c.if-node-units.false less c.index_mut-2.ensures.value c.in_ok-add_vertex-2.ensures)
+    count c.if-node-units.false less c.index_mut-2.ensures.value c.in_ok-add_vertex-2.ensures.added)
