@@ -75,13 +75,24 @@ over_edge g k v w m n within inner leads here there =
     flip (inl (a, b)) = inr (b, a)
     flip (inr (a, b)) = inl (b, a)
 
--- an edge with two real ends joins layers at most one apart
-pub near_layers : (g : DecodingGraph) (k m n : ℕ) → k < length g.edges → is_inner g (edge_at g.edges k) ≡ true
+-- the ends of an edge with two real ends have layers at most one apart
+pub near_by_edge : (g : DecodingGraph) (k m n : ℕ) → k < length g.edges → is_inner g (edge_at g.edges k) ≡ true
     → IsLayer g (edge_at g.edges k).first m → IsLayer g (edge_at g.edges k).second n → (n ≤ m + 1) × (m ≤ n + 1)
-near_layers g k m n within inner first second = (
+near_by_edge g k m n within inner first second = (
   over_edge g k (edge_at g.edges k).first (edge_at g.edges k).second m n within inner (inl (refl, refl)) first second,
   over_edge g k (edge_at g.edges k).second (edge_at g.edges k).first n m within inner (inr (refl, refl)) second first,
 )
+
+-- a vertex that has a layer in the list is real, and that is its layer
+pub layer_known : (g : DecodingGraph) (layers : List (Option ℕ)) → AreLayers g layers → (v m : ℕ) → layer_at layers v ≡ Some m
+    → (is_real_in g v ≡ true) × IsLayer g v m
+layer_known g layers layering v m at = elim (cases_Bool (is_real_in g v)) [
+  | inl real ↦
+      let (n, there, layer) = layering.real v real in
+      let same : n ≡ m = cc (there, at) in
+      (real, subst (IsLayer g v) same layer)
+  | inr virtual ↦ let none : ⊥ = cc (layering.virtual v virtual, at) in absurd none
+]
 
 -- ---- the plan
 
@@ -158,25 +169,16 @@ module _ (g : DecodingGraph) (t u : ℕ) (nodes : List ℕ) (layers : List (Opti
       step None b first second = refl
       step (Some a) None first second = refl
       step (Some a) (Some b) first second =
-          let (is_first, here) = layer_known (edge_at g.edges k).first a first in
-          let (is_second, there) = layer_known (edge_at g.edges k).second b second in
+          let (is_first, here) = layer_known g layers layering (edge_at g.edges k).first a first in
+          let (is_second, there) = layer_known g layers layering (edge_at g.edges k).second b second in
           let inner : is_inner g (edge_at g.edges k) ≡ true = both (is_real_in g (edge_at g.edges k).first) (is_real_in g (edge_at g.edges k).second) is_first is_second in
-          let (up, down) = near_layers g k a b within inner here there in
+          let (up, down) = near_by_edge g k a b within inner here there in
           stays a b (get_or nodes a 0) (get_or nodes b 0) up down
           (each a (omega (arith, layer_below layers (edge_at g.edges k).first a first, high)))
           (each b (omega (arith, layer_below layers (edge_at g.edges k).second b second, high)))
         where
           both : (p q : Bool) → p ≡ true → q ≡ true → (p && q) ≡ true
           both p q x y = rw (x, y) refl
-
-          layer_known : (v m : ℕ) → layer_at layers v ≡ Some m → (is_real_in g v ≡ true) × IsLayer g v m
-          layer_known v m at = elim (cases_Bool (is_real_in g v)) [
-            | inl real ↦
-                let (n, there, layer) = layering.real v real in
-                let same : n ≡ m = cc (there, at) in
-                (real, subst (IsLayer g v) same layer)
-            | inr virtual ↦ let none : ⊥ = cc (layering.virtual v virtual, at) in absurd none
-          ]
 
   owned_if_real : (v : ℕ) → is_some (owner_of (tree_by_nodes (time_fusions u) nodes layers) v) ≡ is_real_in g v
   owned_if_real v = ap is_some (owner_at v) ∙ step (cases_Bool (is_real_in g v))

@@ -13,6 +13,6 @@ mod search;
 
 pub use depths::Layers;
 pub use distances::layers;
-pub use laws::{one_layer, one_layering, planned_or_too_few};
+pub use laws::{near_layers, one_layer, one_layering, one_plan, planned_or_too_few};
 pub use planning::ByLayers;
 pub use runs::add_vertex;
