@@ -19,7 +19,8 @@ use Rattle.fb_plan.specs.declared.parts.Claim.{Claim}
 use Rattle.fb_gen.proofs.Fusions.{count-cons, count-append, count-map}
 use Rattle.fb_gen.proofs.TreeRules.{no_units_fault, no_child_fault, no_use_fault, no_root_fault, no_faults}
 use Rattle.fb_gen.specs.declared.levels.Fusion.{Fusion}
-use Rattle.fb_layers.specs.InternalCovers.{is_held, IsRange, HoldOwned, Ranges, all_ranges, owners_by, tree_by_nodes}
+use Rattle.fb_layers.specs.Runs.{is_held}
+use Rattle.fb_layers.specs.InternalCovers.{IsRange, HoldOwned, Ranges, all_ranges, owners_by, tree_by_nodes}
 
 -- ---- the ranges that hold a vertex
 

@@ -5,8 +5,8 @@ use Rattle.std.proofs.lemmas.List.{get_or_default}
 use Rattle.std.proofs.lemmas.List.Elements.{All-nil, All-cons, All-head, All-tail}
 use Rattle.fb_graph.specs.Counts.{as_count}
 use Rattle.fb_gen.proofs.Fusions.{count-cons}
-use Rattle.fb_layers.specs.Runs.{add_vertex}
-use Rattle.fb_layers.specs.InternalCovers.{is_held, IsRange}
+use Rattle.fb_layers.specs.Runs.{add_vertex, is_held}
+use Rattle.fb_layers.specs.InternalCovers.{IsRange}
 
 abbrev pub no_range : ℕ × ℕ
 no_range = (0, 0)

@@ -7,8 +7,8 @@ use Rattle.std.proofs.lemmas.List.Elements.{All-nil}
 use Rattle.fb_graph.specs.Counts.{as_count}
 use Rattle.fb_plan.specs.Vertices.{is_node}
 use Rattle.fb_layers.specs.Layers.{layer_at}
-use Rattle.fb_layers.specs.Runs.{add_vertex}
-use Rattle.fb_layers.specs.InternalCovers.{is_held, IsRange, HoldOwned, owners_by}
+use Rattle.fb_layers.specs.Runs.{add_vertex, is_held}
+use Rattle.fb_layers.specs.InternalCovers.{IsRange, HoldOwned, owners_by}
 use Rattle.fb_layers.proofs.Extending.{count-add_vertex, ranges-add_vertex}
 use Rattle.fb_layers.proofs.Planned.{owner_by_layer}
 

@@ -1,13 +1,10 @@
 -- Ranges of a plan's nodes that hold the vertices that the nodes own.
-use Rattle.std.specs.Prelude.{ℕ, ◌≡◌, ◌+◌, ◌<◌, ◌≤◌, ◌&&◌, nat_lt, nat_le, Bool, List, [], ◌++◌, length, map, get_or, count_by, All, Option, Some, None, option_map}
+use Rattle.std.specs.Prelude.{ℕ, ◌≡◌, ◌+◌, ◌<◌, ◌≤◌, ◌&&◌, nat_lt, List, [], ◌++◌, length, map, get_or, count_by, All, Option, Some, None, option_map}
 use Rattle.fb_graph.specs.Counts.{as_count}
 use Rattle.fb_plan.specs.Plans.{PlanTree}
 use Rattle.fb_plan.specs.Vertices.{is_node}
 use Rattle.fb_gen.specs.declared.levels.Fusion.{Fusion}
-
--- the range holds the vertex
-abbrev pub is_held : ℕ → ℕ × ℕ → Bool
-is_held v range = nat_le range.0 v && nat_lt v range.1
+use Rattle.fb_layers.specs.Runs.{is_held}
 
 -- a range of at least one vertex
 abbrev pub IsRange : ℕ → ℕ × ℕ → Type 0

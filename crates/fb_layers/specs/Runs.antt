@@ -1,5 +1,5 @@
 -- Ranges of vertices: the maximal runs of consecutive numbers in a rising list.
-use Rattle.std.specs.Prelude.{ℕ, ◌+◌, ◌==◌, if◌then◌else◌, List, [], ◌∷◌, fold}
+use Rattle.std.specs.Prelude.{ℕ, ◌+◌, ◌==◌, ◌&&◌, nat_le, nat_lt, Bool, if◌then◌else◌, List, [], ◌∷◌, fold}
 
 -- ranges with one more vertex, which is above all before it: it goes on the last range, or begins one
 abbrev pub add_vertex : List (ℕ × ℕ) → ℕ → List (ℕ × ℕ)
@@ -10,3 +10,7 @@ add_vertex (first ∷ next ∷ ranges) v = first ∷ add_vertex (next ∷ ranges
 -- the maximal runs of consecutive numbers, each up to and without its end
 abbrev pub runs : List ℕ → List (ℕ × ℕ)
 runs vertices = fold add_vertex [] vertices
+
+-- the range holds the number
+abbrev pub is_held : ℕ → ℕ × ℕ → Bool
+is_held v range = nat_le range.0 v && nat_lt v range.1

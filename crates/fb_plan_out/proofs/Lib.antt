@@ -4,3 +4,4 @@ pub mod Readback
 pub mod Owned
 pub mod Sizes
 pub mod Finished
+pub mod Gaps

@@ -17,8 +17,8 @@ use Rattle.fb_plan.specs.Rules.{plan_by}
 use Rattle.fb_plan.specs.Vertices.{is_node, owned_by}
 use Rattle.fb_plan_in.specs.PlanText.{Fusion, plan_of}
 use Rattle.fb_gen.proofs.Fusions.{count-cons}
-use Rattle.fb_layers.specs.Runs.{add_vertex}
-use Rattle.fb_layers.specs.InternalCovers.{is_held, IsRange, HoldOwned}
+use Rattle.fb_layers.specs.Runs.{add_vertex, is_held}
+use Rattle.fb_layers.specs.InternalCovers.{IsRange, HoldOwned}
 use Rattle.fb_layers.proofs.Covers.{plan_of_cover}
 use Rattle.fb_layers.proofs.Extending.{count-add_vertex, ranges-add_vertex}
 use Rattle.fb_plan_out.specs.PlanWriting.{ranges_at}

@@ -1,2 +1,3 @@
 pub mod PlanWriting
 pub mod InternalWriting
+pub mod Laws

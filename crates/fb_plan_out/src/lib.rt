@@ -2,7 +2,9 @@
 
 #![tactic(auto)]
 
+pub mod laws;
 mod parts;
 pub mod writer;
 
+pub use laws::ranges_are_runs;
 pub use writer::plan_text;
