@@ -136,12 +136,17 @@ def shots_instead(words, file, folder):
     return [file if word == folder / "shots" else word for word in words]
 
 
-def shot_seconds(ways, folder):
+def processor_seconds_of(words, folder):
+    """The seconds that a run takes of the processor."""
+    return run_once(words, folder).processor_seconds
+
+
+def shot_seconds(ways, folder, measure=seconds_of):
     """The seconds that go by in each way to decode the shots, without those that reading the graph and the plan takes."""
     calls = []
     for words in ways:
         bare = shots_instead(words, os.devnull, folder)
-        calls += [lambda words=each: seconds_of(words, folder) for each in (bare, words)]
+        calls += [lambda words=each: measure(words, folder) for each in (bare, words)]
     times = least_in_turn(calls)
     return [max(full - empty, LEAST_SECONDS) for empty, full in zip(times[::2], times[1::2])]
 
@@ -209,12 +214,14 @@ def decoding_instructions(words, folder):
 
 
 def measure_layers(name, units, plan, folder):
-    """Decoding by a plan by layers beside one by time: four workers' time, and one worker's instructions."""
+    """Decoding by a plan by layers beside one by time: four workers' time, and one worker's on the processor and in
+    instructions."""
     (folder / "time.json").write_text(plan)
     words = decode(folder, "b8")
     ways = [[*words, "--plan", folder / "time.json"], [*words, *write_plan(units, folder / "layers.json", folder)]]
     by_time, by_layers = shot_seconds([[*way, "--workers", "4", "--window", "64"] for way in ways], folder)
-    cells = [f"{units}", f"{1e3 * by_time:,.1f}", f"x{by_layers / by_time:.2f}"]
+    alone = shot_seconds(ways, folder, processor_seconds_of)
+    cells = [f"{units}", f"{1e3 * by_time:,.1f}", f"x{by_layers / by_time:.2f}", f"x{alone[1] / alone[0]:.2f}"]
     before, count = (decoding_instructions(way, folder) for way in ways)
     print_line(name, [*cells, *([f"x{count / before:.3f}"] if count else [])])
 
@@ -226,12 +233,13 @@ def write_first_shots(detectors, folder):
 
 
 def measure_lattice(distance, rounds, shots, most_units, folder):
+    """Plans of a lattice with up to so many units, if it has the rounds for them."""
     graph = rounds_lattice(distance, rounds)
     write_graph(graph, folder / "graph.json")
     write_hit_shots(graph, 0.005, shots, folder)
     write_first_shots(graph.vertices - len(graph.virtuals), folder)
     for units in LAYER_UNITS:
-        if units <= most_units:
+        if units <= most_units and 2 * units - 1 <= rounds:
             plan = json.dumps(plan_by_rounds(distance * (distance + 1), rounds, units, False))
             measure_layers(f"distance {distance} rounds {rounds}", units, plan, folder)
 
@@ -251,11 +259,13 @@ def measure_model(distance, rounds, shots, most_units, folder):
 
 def bench_planning(folder, quick):
     print_head("a plan beside reading the graph", ["vertices", "edges", "units", "reading s", "plan", "instructions"])
-    vertices = MOST_VERTICES // 16 if quick else MOST_VERTICES
-    measure_making("edges to near vertices", NEAR, [2, 4_096], folder, vertices)
-    measure_making("edges to far vertices", FAR, [2], folder, vertices)
+    for vertices in [MOST_VERTICES // 16] if quick else [MOST_VERTICES // 16, MOST_VERTICES]:
+        measure_making("edges to near vertices", NEAR, [2, 4_096], folder, vertices)
+        measure_making("edges to far vertices", FAR, [2], folder, vertices)
     most_units, shots = (16, 512) if quick else (64, 1_024)
-    print_head("plans by layers beside time", ["units", "by time ms", "by layers", "instructions"])
+    print_head("plans by layers beside time", ["units", "by time ms", "by layers", "one worker", "instructions"])
     for distance in [9, 13] if quick else [9, 13, 21]:
         measure_lattice(distance, max(10 * distance, 2 * most_units), shots, most_units, folder)
+    for distance in [9] if quick else [9, 13, 21]:
+        measure_lattice(distance, 2 * distance, shots, most_units, folder)
     measure_model(9, max(90, 2 * most_units), shots, most_units, folder)
