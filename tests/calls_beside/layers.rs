@@ -43,7 +43,8 @@ pub fn are_cut(alloc: Global) -> Result<(), Stopped> {
     for (v, owner) in expected.iter().enumerate() {
         Stopped::unless(plan.owner(v as u32) == *owner, "an owner")?;
     }
-    Stopped::unless(plan.units() == 2 && plan.nodes() == 3, "the nodes")
+    Stopped::unless(plan.units() == 2 && plan.nodes() == 3, "the nodes")?;
+    Stopped::unless(plan.children(2) == Some((0, 1)), "the children of the fusion")
 }
 
 pub fn are_too_few(alloc: Global) -> Result<(), Stopped> {
