@@ -25,6 +25,8 @@ pub mod SampleRings
 pub mod SampleSeamStates
 pub mod SampleSeams
 pub mod SampleSearches
+pub mod SampleShots
+pub mod SampleSignedRoots
 pub mod SampleSolved
 pub mod SampleStates
 pub mod SampleTrees

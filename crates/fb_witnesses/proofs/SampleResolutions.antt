@@ -46,7 +46,7 @@ at_defects =
     (EndsAtDefects triangle (leaves closed_nodes)) opened_links
     ((λ h. refl, λ h. refl), ((λ h. refl, λ h. absurd (false≢true h)), tt))
 
-single_sorted : (c : Cut) → length c.vertices ≤ 1 → IsResorted c c
+pub single_sorted : (c : Cut) → length c.vertices ≤ 1 → IsResorted c c
 single_sorted c short = record {
   value = refl;
   moved = IsPermutation-refl c.vertices;

@@ -29,7 +29,7 @@ twice_gone false true false = refl
 twice_gone false false true = refl
 twice_gone false false false = refl
 
-swapped : (a b : Bool) → differ a (differ b false) ≡ differ b (differ a false)
+pub swapped : (a b : Bool) → differ a (differ b false) ≡ differ b (differ a false)
 swapped true true = refl
 swapped true false = refl
 swapped false true = refl

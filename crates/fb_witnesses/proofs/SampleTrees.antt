@@ -1,7 +1,7 @@
 -- Searches on small graphs: a layer taken off, and blossoms formed.
-use Rattle.std.proofs.Common.{ℕ, ◌≡◌, ◌+◌, ◌%◌, ◌≤◌, ◌==◌, inl, inr, not, true, false, cond, List, [], ◌∷◌, ◌++◌, length, refl, sym, ap, ◌∙◌, arith}
+use Rattle.std.proofs.Common.{ℕ, ◌≡◌, ◌+◌, ◌%◌, ◌≤◌, ◌==◌, inl, inr, true, false, List, [], ◌∷◌, ◌++◌, length, refl, sym, ◌∙◌, arith}
 use Rattle.std.specs.List.{list_all}
-use Rattle.std.proofs.lemmas.Bool.{both_ways, false≢true, false_from_ne_true, eq-eqb, ne_eqb, or_from, or_left}
+use Rattle.std.proofs.lemmas.Bool.{both_ways, false≢true, false_from_ne_true, ne_eqb, or_from, or_left}
 use Rattle.std.proofs.lemmas.List.Elements.{All-from_recursion}
 use Rattle.std.proofs.lemmas.List.Sums.{AllPass-from_list_all}
 use Rattle.fb_graph.specs.Parity.{is_in}
@@ -25,7 +25,7 @@ use Rattle.fb_graph.specs.Singles.{AreSingles, nodes_of}
 use Rattle.fb_laws.specs.Trees.{Entry, IsTree, grown_links, paired_links, tree_names}
 use Rattle.fb_witnesses.specs.TreeWitnesses.{LayerWitness, JoiningWitness, long_line, long_singles, thin_nodes, thin_branch, corner_branch, base_corner, other_corners, open_line, open_singles}
 use Rattle.fb_laws.specs.UnmatchedNames.{AreOuterNames}
-use Rattle.fb_laws.specs.Works.{AreMatchedLinks, AreMatched, HasDefects, IsSetOf, names_without}
+use Rattle.fb_laws.specs.Works.{AreMatchedLinks, AreMatched, HasDefects, IsSetOf}
 use Rattle.fb_laws.specs.Opening.{EndsAtDefects}
 use Rattle.fb_graph.proofs.BeginningNests.{singles_are_nest}
 use Rattle.fb_graph.proofs.JoinedNests.{nest_joined}

@@ -17,6 +17,7 @@ pub mod ResolvedWitnesses
 pub mod RingWitnesses
 pub mod SeamWitnesses
 pub mod SearchWitnesses
+pub mod ShotWitnesses
 pub mod SolvedWitnesses
 pub mod StateWitnesses
 pub mod TreeWitnesses

@@ -7,6 +7,7 @@ pub mod examples;
 pub mod instances;
 pub mod link_instances;
 pub mod nest_instances;
+pub mod shot_instances;
 pub mod state_instances;
 pub mod witnesses;
 
@@ -17,6 +18,7 @@ pub use nest_instances::{
     agreed_witness, bound_witness, held_witness, leaf_witness, renamed_witness, row_witness,
     seam_witness,
 };
+pub use shot_instances::shot_witness;
 pub use state_instances::state_witness;
 pub use witnesses::{
     blossom_witness, cover_witness, dual_witness, end_witness, forming_witness, fusion_witness,
