@@ -25,6 +25,7 @@ mod obstacles;
 mod parts;
 mod plain;
 mod playing;
+mod queues;
 mod readings;
 mod roles;
 mod rounds;
@@ -78,6 +79,7 @@ fn main(rt: HostRuntime) -> io::Result<()> {
         ("the calling thread does each item once", workers::work_on_the_calling_thread(alloc)),
         ("fused parts keep their layers", parts::keep_their_layers(alloc)),
         ("trees grow at once", parts::grow_at_once(alloc)),
+        ("due times are first come, first out", queues::are_first_come_first(alloc)),
         ("parts list their defects", parts::list_their_defects(alloc)),
         ("parts give the root their cuts", parts::give_the_root_their_cuts(&rt, alloc)),
         ("posted parts have all defects matched", parts::have_all_defects_matched(&rt, alloc)),
