@@ -130,13 +130,13 @@ fn counts_of<R: Threads + Sync>(
 }
 
 /// Defects at 1 and 3, and at 1, 2 and 3: each unit matches its defect, one of them to the seam at 2, whose fusion makes one
-/// search. Without a plan nothing is fused.
+/// search. It makes one for a defect at 2 alone too. Without a plan nothing is fused.
 pub fn count_what_is_done<R: Threads + Sync>(rt: &R, alloc: Global) -> Result<(), Stopped> {
     let line = Line::new(alloc, &[2, 4, 2, 6], &[2])?;
     for workers in 1..3 {
-        for defects in [[1, 3].as_slice(), [1, 2, 3].as_slice()] {
+        for (defects, of_units) in [([1, 3].as_slice(), 2), ([1, 2, 3].as_slice(), 2), ([2].as_slice(), 0)] {
             let counts = counts_of(rt, alloc, &line, &line.plan, workers, defects)?;
-            Stopped::unless(counts == [2, 2, 1, 1], "the counts of two units and their fusion")?;
+            Stopped::unless(counts == [2, of_units, 1, 1], "the counts of two units and their fusion")?;
         }
     }
     let single = Plan::single(alloc, &line.graph)?;
