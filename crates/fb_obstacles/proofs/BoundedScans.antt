@@ -2,9 +2,9 @@
 use Rattle.std.proofs.Common.{ℕ, ◌≡◌, ◌-◌, ◌*◌, ◌/◌, ◌≤◌, ◌<◌, ◌==◌, ◌&&◌, ◌⊎◌, inl, inr, Bool, true, false, not, List, length, get_or, set, take, take_all, All, refl, sym, ap, ◌∙◌, subst, true≢false, arith}
 use Rattle.std.specs.List.{swap_remove}
 use Rattle.std.proofs.Math.Bool.{and-false, and-true}
-use Rattle.std.proofs.lemmas.Bool.{and_from, and_parts, eq-eqb, false≢true, false_from_ne_true, cases_eq, cases_lt, eqb-true, leb-true, not_from_false}
+use Rattle.std.proofs.lemmas.Bool.{and_from, and_parts, eq-eqb, false≢true, false_from_ne_true, eqb-true, leb-true, not_from_false}
 use Rattle.std.proofs.lemmas.Grind.{get_or_default_zero}
-use Rattle.std.proofs.lemmas.List.{get_or-set_same, get_or-set_other, get_or-take, length-take-le, set_past, take-set-le, take-take}
+use Rattle.std.proofs.lemmas.List.{get_or-take, length-take-le, take-set-le, take-take}
 use Rattle.std.proofs.lemmas.List.Elements.{All-from_get_or}
 use Rattle.fb_graph.specs.Parity.{is_in}
 use Rattle.fb_graph.specs.Problem.{Problem, edge_at, no_edge}
@@ -30,7 +30,7 @@ use Rattle.fb_obstacles.proofs.EdgeLooks.{look_bound}
 use Rattle.fb_obstacles.proofs.EdgeScans.{edge_looked}
 use Rattle.fb_obstacles.proofs.LeftEdges.{outer_edge}
 use Rattle.fb_obstacles.proofs.LookLimits.{limits_blocked, limits_next, limits_passed, limits_same, limits_unlimited}
-use Rattle.fb_obstacles.proofs.RaisedBounds.{bounded_taken, taken_default}
+use Rattle.fb_obstacles.proofs.RaisedBounds.{bounded_set, bounded_taken, taken_default}
 
 -- an edge bears a step of half its slack
 slack_bears : (p : Problem) (roles : Roles) (nodes : List Node) (j k : ℕ) → IsDual p nodes → AreRoles roles nodes
@@ -90,21 +90,6 @@ pub record IsScanned (p : Problem) (role_of : ℕ → Role) (nodes : List Node) 
   pub within : place ≤ length new.edges
   pub watched : LeavesInner p nodes old new
   pub bounded : AreBounded (slack_at p (roles_by role_of) nodes) new
-
--- the bound of one edge is set to at most its limit
-bounded_set : (limit : ℕ → ℕ) (w : Watched) (i x : ℕ) → AreBounded limit w → x ≤ limit (get_or w.edges i 0)
-    → AreBounded limit (record w { bounds = set w.bounds i x })
-bounded_set limit w i x bounded most j less = step (cases_eq j i) (cases_lt i (length w.bounds))
-  where
-    step : (j ≡ i) ⊎ (j ≡ i → ⊥) → (i < length w.bounds) ⊎ (length w.bounds ≤ i)
-        → get_or (set w.bounds i x) j 0 ≤ limit (get_or w.edges j 0)
-    step (inr other) some =
-        subst (λ y. y ≤ limit (get_or w.edges j 0)) (sym (get_or-set_other w.bounds i j x 0 other)) (bounded j less)
-    step (inl same) (inr past) =
-        subst (λ ys. get_or ys j 0 ≤ limit (get_or w.edges j 0)) (sym (set_past w.bounds i x past)) (bounded j less)
-    step (inl same) (inl within) =
-        subst (λ m. get_or (set w.bounds i x) m 0 ≤ limit (get_or w.edges m 0)) (sym same)
-        (subst (λ y. y ≤ limit (get_or w.edges i 0)) (sym (get_or-set_same w.bounds i x 0 within)) most)
 
 -- edges but for one that is under one node leave the watch no sooner than that one
 leaves_one : (p : Problem) (nodes : List Node) (old w new : Watched) (m : ℕ) → LeavesInner p nodes old w

@@ -6,7 +6,7 @@ use Rattle.fb_graph.specs.Parity.{is_in}
 use Rattle.fb_graph.specs.Certificate.{AreDistinct}
 use Rattle.fb_graph.proofs.Sets.{is_in_at}
 use Rattle.fb_obstacles.specs.Watched.{Watched}
-use Rattle.fb_obstacles.specs.InternalWatch.{StaysRight}
+use Rattle.fb_obstacles.specs.InternalWatch.{StaysRight, StaysRightAbove}
 
 -- limits that are kept but at some edges, and then but at others
 pub right_twice : (First Both : ℕ → Type 0) (test : ℕ → Bool) (a b c : Watched) → ((k : ℕ) → test k ≡ false → First k → Both k)
@@ -21,6 +21,22 @@ right_twice First Both test a b c kept first second before after less right =
     by : (k : ℕ) → First k → (t : Bool) → test k ≡ t → before k ≤ cond t (before k) (after k)
     by k was true is = le_refl (before k)
     by k was false is = less k (kept k is was)
+
+-- limits that are kept but at some edges, where they are at least these, and then but at others
+pub bounded_twice : (slack : ℕ → ℕ) (one two both : ℕ → Bool) (a b c : Watched) → ((k : ℕ) → one k ≡ true → both k ≡ true)
+    → ((k : ℕ) → two k ≡ true → both k ≡ true) → ((k : ℕ) → one k ≡ false → two k ≡ false → both k ≡ false)
+    → StaysRightAbove slack one a b → StaysRightAbove slack two b c → StaysRightAbove slack both a c
+bounded_twice slack one two both a b c early late neither first second before after less enough right =
+    second between after (λ k out. later k out (one k) refl) (λ k in_it. enough k (late k in_it))
+    (first before between (λ k out. subst (λ t. before k ≤ cond t (after k) (before k)) (sym out) (le_refl (before k)))
+    (λ k in_it. subst (λ t. slack k ≤ cond t (after k) (before k)) (sym in_it) (enough k (early k in_it))) right)
+  where
+    between : ℕ → ℕ
+    between k = cond (one k) (after k) (before k)
+
+    later : (k : ℕ) → two k ≡ false → (t : Bool) → one k ≡ t → cond t (after k) (before k) ≤ after k
+    later k out true is = le_refl (after k)
+    later k out false is = less k (neither k is out)
 
 -- distinct numbers stand at one place each
 distinct_places : (xs : List ℕ) (i j : ℕ) → AreDistinct xs → i < length xs → j < length xs → get_or xs i 0 ≡ get_or xs j 0 → i ≡ j

@@ -1,11 +1,11 @@
 -- Bounds that are kept with an amount added to each.
-use Rattle.std.proofs.Common.{ℕ, suc, ◌≡◌, ◌+◌, ◌-◌, ◌≤◌, ◌<◌, ◌⊎◌, inl, inr, List, [], ◌∷◌, All, length, map, get_or, set, take, min, refl, ap, ◌∙◌, arith}
+use Rattle.std.proofs.Common.{ℕ, suc, ◌≡◌, ◌+◌, ◌-◌, ◌≤◌, ◌<◌, ◌⊎◌, inl, inr, List, [], ◌∷◌, All, length, map, get_or, set, take, min, refl, sym, ap, subst, ◌∙◌, arith}
 use Rattle.std.specs.List.{swap_remove}
 use Rattle.std.proofs.Math.ListN.{get_or-map as get_or-map_lowered}
 use Rattle.std.proofs.Math.Nat.{min-eq_left, min-eq_right}
 use Rattle.std.proofs.Math.Seq.{take-set-lt}
 use Rattle.std.proofs.lemmas.Bool.{cases_eq, cases_lt}
-use Rattle.std.proofs.lemmas.List.{get_or_default, map-set}
+use Rattle.std.proofs.lemmas.List.{get_or_default, get_or-set_other, get_or-set_same, map-set, set_past}
 use Rattle.fb_obstacles.specs.Watched.{Watched, AreBounded}
 use Rattle.fb_regions.proofs.Stored.{length-swapped, swapped_here, swapped_other}
 
@@ -32,6 +32,21 @@ pub lowered_set : (xs : List ℕ) (n a i raised : ℕ) → i < n
     → map (λ y. y - a) (take n (set xs i raised)) ≡ set (map (λ y. y - a) (take n xs)) i (raised - a)
 lowered_set xs n a i raised less =
     ap (map (λ y. y - a)) (take-set-lt n xs i raised less) ∙ map-set (λ y. y - a) (take n xs) i raised
+
+-- the bound of one edge is set to at most its limit
+pub bounded_set : (limit : ℕ → ℕ) (w : Watched) (i x : ℕ) → AreBounded limit w → x ≤ limit (get_or w.edges i 0)
+    → AreBounded limit (record w { bounds = set w.bounds i x })
+bounded_set limit w i x bounded most j less = step (cases_eq j i) (cases_lt i (length w.bounds))
+  where
+    step : (j ≡ i) ⊎ (j ≡ i → ⊥) → (i < length w.bounds) ⊎ (length w.bounds ≤ i)
+        → get_or (set w.bounds i x) j 0 ≤ limit (get_or w.edges j 0)
+    step (inr other) some =
+        subst (λ y. y ≤ limit (get_or w.edges j 0)) (sym (get_or-set_other w.bounds i j x 0 other)) (bounded j less)
+    step (inl same) (inr past) =
+        subst (λ ys. get_or ys j 0 ≤ limit (get_or w.edges j 0)) (sym (set_past w.bounds i x past)) (bounded j less)
+    step (inl same) (inl within) =
+        subst (λ m. get_or (set w.bounds i x) m 0 ≤ limit (get_or w.edges m 0)) (sym same)
+        (subst (λ y. y ≤ limit (get_or w.edges i 0)) (sym (get_or-set_same w.bounds i x 0 within)) most)
 
 -- what is taken in place of a missing last element doesn't matter where there is one
 pub taken_default : (xs : List ℕ) (i d e : ℕ) → i < length xs → swap_remove xs i d ≡ swap_remove xs i e

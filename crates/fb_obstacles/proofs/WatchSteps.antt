@@ -7,8 +7,8 @@ use Rattle.fb_graph.specs.Parity.{is_in}
 use Rattle.fb_graph.specs.Problem.{Problem, edge_at, no_edge, touches}
 use Rattle.fb_graph.proofs.Members.{is_in_push, is_in-take_more, is_in-append}
 use Rattle.fb_graph.proofs.ParitySums.{differ_self}
-use Rattle.fb_graph.proofs.Ranges.{is_in-filter-range}
-use Rattle.fb_graph.proofs.Sets.{equal_sym, is_in-cases, is_in-head}
+use Rattle.fb_graph.proofs.Ranges.{filter-range_below, is_in-filter-range}
+use Rattle.fb_graph.proofs.Sets.{equal_sym, is_in-All, is_in-cases, is_in-head}
 use Rattle.fb_obstacles.specs.Watched.{AreBounded, Watched}
 use Rattle.fb_obstacles.specs.InternalWatch.{StaysRight}
 use Rattle.fb_obstacles.specs.InternalWatching.{Enters, Watches}
@@ -31,6 +31,15 @@ untouched p v es k e out = by (cases_lt k (length p.edges))
     by (inl less) =
         sym (ap (λ l. is_in l k) e ∙ is_in-filter-range (λ j. touches v (edge_at p.edges j)) (length p.edges) k less) ∙ out
     by (inr past) = ap (touches v) (get_or_past p.edges k no_edge past) ∙ differ_self (v == 0)
+
+-- and one that is listed there does
+pub touched : (p : Problem) (v : ℕ) (es : List ℕ) (k : ℕ)
+    → es ≡ filter (λ k. touches v (edge_at p.edges k)) (range_with_len 0 (length p.edges)) → is_in es k ≡ true
+    → touches v (edge_at p.edges k) ≡ true
+touched p v es k e held =
+    let there : is_in (filter (λ j. touches v (edge_at p.edges j)) (range_with_len 0 (length p.edges))) k ≡ true = sym (ap (λ l. is_in l k) e) ∙ held in
+    let less : k < length p.edges = is_in-All (λ j. j < length p.edges) _ (filter-range_below (λ j. touches v (edge_at p.edges j)) (length p.edges)) k there in
+    sym (is_in-filter-range (λ j. touches v (edge_at p.edges j)) (length p.edges) k less) ∙ there
 
 -- vertex after vertex
 pub watched_none : (p : Problem) (w : Watched) → Watches p [] w w

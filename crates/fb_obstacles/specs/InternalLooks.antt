@@ -21,6 +21,7 @@ use Rattle.fb_obstacles.specs.declared.looking.Look.{Look}
 use Rattle.fb_obstacles.specs.declared.looking.Look.TheVariants.{Clear, Within, Blocked}
 use Rattle.fb_obstacles.specs.declared.ends.Cover.{Cover}
 use Rattle.fb_obstacles.specs.declared.ends.Cover.TheVariants.{Plus, Minus, Out, Bare, Virtual}
+use Rattle.fb_obstacles.specs.declared.ends.End.{End}
 use Rattle.fb_obstacles.specs.declared.ends.Ends.{Ends}
 
 abbrev pub cover_in_role : Role → ℕ → Cover
@@ -37,6 +38,11 @@ cover_by role_of false None = Virtual
 -- the outer node over a vertex with this holder
 abbrev pub node_by : Option Holder → Option ℕ
 node_by holder = option_map (λ h. h.node) holder
+
+-- the vertex with its holder
+pub record IsEnd (nodes : List Node) (v : ℕ) (end : End) : Type 0 where
+  pub vertex : end.vertex ≡ v
+  pub holder : IsHolder nodes v end.holder
 
 -- the ends are those of the edge, each with its holder
 pub record AreEnds (nodes : List Node) (e : Edge) (ends : Ends) : Type 0 where

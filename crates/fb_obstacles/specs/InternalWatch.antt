@@ -1,5 +1,5 @@
 -- How the watched edges are stored: as the first keys of a map, of which the first wait in a queue.
-use Rattle.std.specs.Prelude.{ℕ, ◌≡◌, ◌==◌, ◌<◌, ◌≤◌, ◌+◌, ◌-◌, ◌^◌, ◌&&◌, true, not, All, List, length, get_or, map, take, swap}
+use Rattle.std.specs.Prelude.{ℕ, Bool, ◌≡◌, ◌==◌, ◌<◌, ◌≤◌, ◌+◌, ◌-◌, ◌^◌, ◌&&◌, true, false, not, All, List, length, get_or, map, take, swap}
 use Rattle.indexmap.specs.IndexMap.{IndexMap, keys, values, index_map_len, spare}
 use Rattle.fb_graph.specs.Parity.{is_in}
 use Rattle.fb_obstacles.specs.Watched.{AreBounded, NodeBound, Watched}
@@ -41,6 +41,12 @@ unqueued place w = record {
 abbrev pub StaysRight : (ℕ → Type 0) → Watched → Watched → Type 0
 StaysRight Kept old new =
     (before after : ℕ → ℕ) → ((k : ℕ) → Kept k → before k ≤ after k) → AreBounded before old → AreBounded after new
+
+-- and for limits that are at least these at some edges, and aren't less at the others
+abbrev pub StaysRightAbove : (ℕ → ℕ) → (ℕ → Bool) → Watched → Watched → Type 0
+StaysRightAbove least at old new =
+    (before after : ℕ → ℕ) → ((k : ℕ) → at k ≡ false → before k ≤ after k) → ((k : ℕ) → at k ≡ true → least k ≤ after k)
+    → AreBounded before old → AreBounded after new
 
 -- the same edges and nodes are watched, the edges in another order, with bounds that are as right
 pub record Reorders (old new : Watched) : Type 0 where

@@ -1,10 +1,13 @@
--- Edges and nodes that come under watch. Nothing is known of their slacks then; the bounds of other edges stay right, whatever limits they
--- keep.
+-- Edges and nodes that come under watch. The bounds of other edges stay right, whatever limits they keep. Nothing is known of the slacks of
+-- those that come, unless the roles are named in which their bounds are right.
 use Rattle.std.specs.Prelude.{ℕ, ◌≡◌, ◌-◌, ◌<◌, ◌≤◌, true, false, not, List, get_or, length, map, if◌then◌else◌}
 use Rattle.fb_graph.specs.Parity.{is_in}
 use Rattle.fb_graph.specs.Problem.{Problem, edge_at, touches}
 use Rattle.fb_graph.specs.Dual.{Node}
+use Rattle.fb_graph.specs.Steps.{Roles}
 use Rattle.fb_obstacles.specs.InnerEdges.{is_inner}
+use Rattle.fb_obstacles.specs.Obstacles.{slack_at}
+use Rattle.fb_obstacles.specs.InternalWatch.{StaysRightAbove}
 use Rattle.fb_obstacles.specs.Watched.{AreBounded, NodeBound, Watched, has_bound}
 
 -- The edges are watched, and all that were watched before.
@@ -27,23 +30,23 @@ pub record Watches (p : Problem) (vertices : List ℕ) (old new : Watched) : Typ
       → ((k : ℕ) → ((v : ℕ) → is_in vertices v ≡ true → touches v (edge_at p.edges k) ≡ false) → before k ≤ after k)
       → AreBounded before old → AreBounded after new
 
--- Of these edges, those are watched whose ends aren't under one outer node; others are watched as before.
-pub record WatchesOuter (p : Problem) (nodes : List Node) (edges : List ℕ) (old new : Watched) : Type 0 where
+-- Of these edges, those are watched whose ends aren't under one outer node, with bounds that are right in these roles; others are watched
+-- as before.
+pub record WatchesOuter (p : Problem) (roles : Roles) (nodes : List Node) (edges : List ℕ) (old new : Watched) : Type 0 where
   pub room : new.edge_count ≡ old.edge_count
   pub minus : new.nodes ≡ old.nodes
   pub watched : (k : ℕ) → is_in new.edges k
       ≡ (if is_in edges k then not (is_inner nodes (edge_at p.edges k)) else is_in old.edges k)
-  pub bounds : (before after : ℕ → ℕ) → ((k : ℕ) → is_in edges k ≡ false → before k ≤ after k)
-      → AreBounded before old → AreBounded after new
+  pub bounds : StaysRightAbove (slack_at p roles nodes) (is_in edges) old new
 
--- Of the edges at the vertex, those are watched whose ends aren't under one outer node; others are watched as before.
-pub record WatchesTaken (p : Problem) (nodes : List Node) (v : ℕ) (old new : Watched) : Type 0 where
+-- Of the edges at the vertex, those are watched whose ends aren't under one outer node, with bounds that are right in these roles; others
+-- are watched as before.
+pub record WatchesTaken (p : Problem) (roles : Roles) (nodes : List Node) (v : ℕ) (old new : Watched) : Type 0 where
   pub room : new.edge_count ≡ old.edge_count
   pub minus : new.nodes ≡ old.nodes
   pub watched : (k : ℕ) → k < length p.edges → is_in new.edges k
       ≡ (if touches v (edge_at p.edges k) then not (is_inner nodes (edge_at p.edges k)) else is_in old.edges k)
-  pub bounds : (before after : ℕ → ℕ) → ((k : ℕ) → touches v (edge_at p.edges k) ≡ false → before k ≤ after k)
-      → AreBounded before old → AreBounded after new
+  pub bounds : StaysRightAbove (slack_at p roles nodes) (λ k. touches v (edge_at p.edges k)) old new
 
 abbrev pub no_node : NodeBound
 no_node = record { name = 0; bound = 0 }

@@ -1,9 +1,9 @@
-ghost use Rattle.std.specs.Prelude.{◌≡◌, ◌<◌, length};
-ghost use Rattle.fb_graph.specs.Problem.{edge_at};
+ghost use Rattle.std.specs.Prelude.{◌≡◌, ◌<◌, true, length};
+ghost use Rattle.fb_graph.specs.Problem.{edge_at, touches};
 ghost use Rattle.fb_graph.specs.Dual.{IsDual};
 ghost use Rattle.fb_regions.specs.Holders.{potential_by};
 ghost use Rattle.fb_obstacles.specs.InnerEdges.{is_one_node};
-ghost use Rattle.fb_obstacles.specs.InternalLooks.{AreEnds, cover_by, far_by, far_end, node_by, residue_by};
+ghost use Rattle.fb_obstacles.specs.InternalLooks.{AreEnds, IsEnd, cover_by, far_by, far_end, node_by, residue_by};
 
 use crate::NodeId;
 use fb_graph::Scope;
@@ -31,6 +31,25 @@ pub fn keeps_dual<S: Scope>(regions: &Regions<S>)
     regions.keeps();
 }
 
+/// A vertex, with the node that holds it and its potential.
+#[derive(Clone, Copy)]
+pub struct End {
+    vertex: u32,
+    holder: Option<Holder>,
+}
+
+impl End {
+    /// The vertex as it is held in these regions.
+    pub fn of<S: Scope>(vertex: u32, regions: &Regions<S>) -> End
+        ensures { IsEnd regions.now.nodes vertex result }
+    {
+        End {
+            vertex,
+            holder: regions.holder(vertex),
+        }
+    }
+}
+
 /// The nodes that hold the ends of an edge, with the potentials of the ends.
 #[derive(Clone, Copy)]
 pub struct Ends {
@@ -48,6 +67,27 @@ impl Ends {
         Ends {
             first: regions.holder(first),
             second: regions.holder(second),
+        }
+    }
+
+    /// The ends of an edge at this vertex.
+    pub fn at<S: Scope>(end: End, edge: u32, regions: &Regions<S>) -> Ends
+        requires below { edge < length (S.problem regions.now.scope).edges }
+        requires touches { touches end.vertex (edge_at (S.problem regions.now.scope).edges edge) ≡ true }
+        requires held { IsEnd regions.now.nodes end.vertex end }
+        ensures { AreEnds regions.now.nodes (edge_at (S.problem regions.now.scope).edges edge) result }
+    {
+        let (first, second) = regions.scope().ends(edge);
+        if first == end.vertex {
+            Ends {
+                first: end.holder,
+                second: regions.holder(second),
+            }
+        } else {
+            Ends {
+                first: regions.holder(first),
+                second: end.holder,
+            }
         }
     }
 

@@ -1,15 +1,20 @@
 //! What comes under watch: the edges at a node, those at a vertex that a node absorbs, and minus nodes.
 
-ghost use Rattle.std.specs.Prelude.{◌≡◌, ◌<◌, true, [], ◌*◌, ◌∷◌, All, OnOk, length};
-ghost use Rattle.fb_graph.specs.Problem.{edge_at};
+ghost use Rattle.std.specs.Prelude.{◌≡◌, ◌<◌, ◌+◌, true, [], ◌*◌, ◌∷◌, All, OnOk, filter, length};
+ghost use Rattle.std.specs.List.{range_with_len};
+ghost use Rattle.fb_graph.specs.Problem.{edge_at, touches};
 ghost use Rattle.fb_graph.specs.Dual.{is_live, top_at};
 ghost use Rattle.fb_regions.specs.Moves.{node_named, outer_end};
-ghost use Rattle.fb_obstacles.specs.InnerEdges.{is_inner, is_one_node};
+ghost use Rattle.fb_obstacles.specs.InternalLooks.{IsEnd};
 ghost use Rattle.fb_obstacles.specs.InternalWatching.{Enters, EntersNode, Watches, WatchesOuter, WatchesTaken};
+ghost use Rattle.fb_obstacles.specs.Obstacles.{roles_by};
 
 use crate::Watch;
-use fb_graph::{NoMemory, Scope};
-use fb_regions::{NodeId, Regions};
+use crate::ends::End;
+use crate::looking::look_beside;
+use fb_graph::{NoMemory, Scope, Steps};
+use fb_regions::{NodeId, Regions, Roles};
+use std::sync::ledger::Ledger;
 
 /// Watches these edges from now on.
 fn enter_all(watch: &mut Watch, edges: &[u32])
@@ -38,47 +43,51 @@ pub fn watch_node<S: Scope>(watch: &mut Watch, scope: &S, regions: &Regions<S>, 
     }
 }
 
-/// Whether these are one node.
-fn is_one_node(first: Option<NodeId>, second: Option<NodeId>) -> bool
-    ensures { result ≡ is_one_node first second }
-{
-    match (first, second) {
-        (Some(m), Some(n)) => m == n,
-        _ => false,
-    }
-}
-
-/// Whether one outer node holds both ends of the edge.
-fn is_inner<S: Scope>(scope: &S, regions: &Regions<S>, edge: u32) -> bool
-    requires { edge < length (S.problem scope.now).edges }
-    ensures { result ≡ is_inner regions.now.nodes (edge_at (S.problem scope.now).edges edge) }
-{
-    let (first, second) = scope.ends(edge);
-    is_one_node(regions.cover_of(first), regions.cover_of(second))
-}
-
-/// Watches the edge, unless one outer node holds both its ends: then it is watched no longer.
-fn watch_outer<S: Scope>(watch: &mut Watch, scope: &S, regions: &Regions<S>, edge: u32)
+/// Watches the edge at this vertex with what it bears in these roles, unless one outer node holds both its ends: then it is
+/// watched no longer. Counts a look.
+fn watch_outer<S: Scope, R: Roles, L: Ledger>(
+    watch: &mut Watch,
+    scope: &S,
+    regions: &Regions<S>,
+    roles: &R,
+    end: End,
+    edge: u32,
+    looks: &mut Steps<L>,
+)
+    requires same { regions.now.scope ≡ scope.now }
     requires room { watch.old.edge_count ≡ length (S.problem scope.now).edges }
     requires below { edge < length (S.problem scope.now).edges }
-    ensures { WatchesOuter (S.problem scope.now) regions.now.nodes (edge ∷ []) watch.old watch.new }
+    requires touches { touches end.vertex (edge_at (S.problem scope.now).edges edge) ≡ true }
+    requires held { IsEnd regions.now.nodes end.vertex end }
+    ensures watched { WatchesOuter (S.problem scope.now) (roles_by (R.role_of roles.now)) regions.now.nodes (edge ∷ []) watch.old watch.new }
+    ensures looks { looks.new ≡ looks.old + 1 }
 {
-    if is_inner(scope, regions, edge) {
-        watch.leave(edge);
-    } else {
-        watch.enter(edge);
+    match look_beside(end, edge, scope, regions, roles, looks) {
+        Some(look) => watch.enter_with(edge, look.bound()),
+        None => watch.leave(edge),
     }
 }
 
-/// Watches the edges at a vertex that an outer node has absorbed, or that none holds any longer. Those that lead to another
-/// vertex of the same node are watched no longer. Nothing is known of the slacks of the others.
-pub fn watch_taken<S: Scope>(watch: &mut Watch, scope: &S, regions: &Regions<S>, v: u32)
+/// Watches the edges at a vertex that an outer node has absorbed, or that none holds any longer, each with what it bears in these
+/// roles. Those that lead to another vertex of the same node are watched no longer. Counts a look for each edge.
+pub fn watch_taken<S: Scope, R: Roles, L: Ledger>(
+    watch: &mut Watch,
+    scope: &S,
+    regions: &Regions<S>,
+    roles: &R,
+    v: u32,
+    looks: &mut Steps<L>,
+)
+    requires same { regions.now.scope ≡ scope.now }
     requires room { watch.old.edge_count ≡ length (S.problem scope.now).edges }
     requires below { v < (S.problem scope.now).vertices }
-    ensures { WatchesTaken (S.problem scope.now) regions.now.nodes v watch.old watch.new }
+    ensures watched { WatchesTaken (S.problem scope.now) (roles_by (R.role_of roles.now)) regions.now.nodes v watch.old watch.new }
+    ensures looks { let p = S.problem scope.now in
+        looks.new ≡ looks.old + length (filter (λ k. touches v (edge_at p.edges k)) (range_with_len 0 (length p.edges))) }
 {
+    let end = End::of(v, regions);
     for edge in scope.edges_at(v) {
-        watch_outer(watch, scope, regions, *edge);
+        watch_outer(watch, scope, regions, roles, end, *edge, looks);
     }
 }
 

@@ -1,9 +1,10 @@
-ghost use Rattle.std.specs.Prelude.{◌≡◌, ◌+◌, ◌<◌, ◌≤◌, length, MatchOption};
-ghost use Rattle.fb_graph.specs.Dual.{AreUnderOne};
-ghost use Rattle.fb_graph.specs.Problem.{edge_at};
-ghost use Rattle.fb_obstacles.specs.InternalLooks.{bounded_look, both_looks, bound_by, edge_look, far_by, fits_within, look_at, look_if};
+ghost use Rattle.std.specs.Prelude.{◌≡◌, ◌+◌, ◌<◌, ◌≤◌, true, false, List, length, MatchOption};
+ghost use Rattle.fb_graph.specs.Dual.{AreUnderOne, Node};
+ghost use Rattle.fb_graph.specs.Problem.{edge_at, touches};
+ghost use Rattle.fb_obstacles.specs.InnerEdges.{is_inner};
+ghost use Rattle.fb_obstacles.specs.InternalLooks.{AreEnds, IsEnd, bounded_look, both_looks, bound_by, edge_look, far_by, fits_within, look_at, look_if};
 
-use crate::ends::{Cover, Ends};
+use crate::ends::{Cover, End, Ends};
 use crate::obstacle::Obstacle;
 use fb_graph::{Scope, Steps};
 use fb_regions::{Regions, Roles};
@@ -96,8 +97,46 @@ pub fn look_between<S: Scope, R: Roles, L: Ledger>(
         (λ look. look ≡ edge_look (S.problem scope.now) (R.role_of roles.now) regions.now.nodes edge) }
     ensures counted { looks.new ≡ looks.old + 1 }
 {
+    look_over(edge, Ends::of(edge, regions), scope, roles, looks)
+}
+
+/// The same of an edge at this vertex.
+pub fn look_beside<S: Scope, R: Roles, L: Ledger>(
+    end: End,
+    edge: u32,
+    scope: &S,
+    regions: &Regions<S>,
+    roles: &R,
+    looks: &mut Steps<L>,
+) -> Option<Look>
+    requires same { regions.now.scope ≡ scope.now }
+    requires below { edge < length (S.problem scope.now).edges }
+    requires touches { touches end.vertex (edge_at (S.problem scope.now).edges edge) ≡ true }
+    requires held { IsEnd regions.now.nodes end.vertex end }
+    ensures look { MatchOption result (is_inner regions.now.nodes (edge_at (S.problem scope.now).edges edge) ≡ true)
+        (λ look. (look ≡ edge_look (S.problem scope.now) (R.role_of roles.now) regions.now.nodes edge)
+        × (is_inner regions.now.nodes (edge_at (S.problem scope.now).edges edge) ≡ false)) }
+    ensures counted { looks.new ≡ looks.old + 1 }
+{
+    look_over(edge, Ends::at(end, edge, regions), scope, roles, looks)
+}
+
+/// The same of an edge whose ends are known.
+fn look_over<S: Scope, R: Roles, L: Ledger>(
+    edge: u32,
+    ends: Ends,
+    scope: &S,
+    roles: &R,
+    looks: &mut Steps<L>,
+) -> Option<Look>
+    requires { edge < length (S.problem scope.now).edges }
+    ensures look { (nodes : List Node) → AreEnds nodes (edge_at (S.problem scope.now).edges edge) ends
+        → MatchOption result (is_inner nodes (edge_at (S.problem scope.now).edges edge) ≡ true)
+        (λ look. (look ≡ edge_look (S.problem scope.now) (R.role_of roles.now) nodes edge)
+        × (is_inner nodes (edge_at (S.problem scope.now).edges edge) ≡ false)) }
+    ensures counted { looks.new ≡ looks.old + 1 }
+{
     looks.tick();
-    let ends = Ends::of(edge, regions);
     if ends.are_under_one() {
         return None;
     }

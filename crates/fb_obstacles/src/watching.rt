@@ -6,7 +6,7 @@ ghost use Rattle.fb_graph.specs.Counts.{as_count};
 ghost use Rattle.fb_graph.specs.Certificate.{AreDistinct};
 ghost use Rattle.fb_obstacles.specs.Watched.{AreBounded, has_bound};
 ghost use Rattle.fb_obstacles.specs.InternalQueue.{is_due};
-ghost use Rattle.fb_obstacles.specs.InternalWatch.{AreDue, Reorders, StaysRight, unqueued};
+ghost use Rattle.fb_obstacles.specs.InternalWatch.{AreDue, Reorders, StaysRight, StaysRightAbove, unqueued};
 ghost use Rattle.fb_obstacles.specs.InternalWatching.{EntersNode, IsFirstNode, KeepsBounds, lowered_bounds, no_node};
 
 use crate::NodeId;
@@ -120,9 +120,38 @@ impl Watch {
         ensures edges { (e : ℕ) → is_in self.new.edges e ≡ (is_in self.old.edges e || (e == edge)) }
         ensures bounds { StaysRight (λ e. (e == edge) ≡ false) self.old self.new }
     {
+        let _place = self.place_entered(edge);
+    }
+
+    /// Watches the edge from now on, with this bound of its slack, or a lower one where the sum with `lowered` isn't a number of
+    /// 64 bits.
+    pub(crate) fn enter_with(&mut self, edge: u32, bound: u64)
+        requires { edge < self.old.edge_count }
+        ensures count { self.new.edge_count ≡ self.old.edge_count }
+        ensures nodes { self.new.nodes ≡ self.old.nodes }
+        ensures edges { (e : ℕ) → is_in self.new.edges e ≡ (is_in self.old.edges e || (e == edge)) }
+        ensures bounds { StaysRightAbove (λ _. bound) (λ e. e == edge) self.old self.new }
+    {
+        let place = self.place_entered(edge);
         self.keeps();
-        if let Some(place) = self.place_or_add(edge) {
-            self.forget(place);
+        self.set_bound(place, bound);
+    }
+
+    /// Watches the edge from now on, and returns its place, where it doesn't wait in the queue. Nothing is known of its slack
+    /// then.
+    fn place_entered(&mut self, edge: u32) -> usize
+        requires { edge < self.old.edge_count }
+        ensures count { self.new.edge_count ≡ self.old.edge_count }
+        ensures nodes { self.new.nodes ≡ self.old.nodes }
+        ensures edges { (e : ℕ) → is_in self.new.edges e ≡ (is_in self.old.edges e || (e == edge)) }
+        ensures bounds { StaysRight (λ e. (e == edge) ≡ false) self.old self.new }
+        ensures within { (self.new.queued ≤ result) × (result < length self.new.edges) }
+        ensures at { get_or self.new.edges result 0 ≡ edge }
+    {
+        self.keeps();
+        match self.place_or_add(edge) {
+            Some(place) => self.forget(place),
+            None => self.len() - 1,
         }
     }
 
@@ -145,17 +174,21 @@ impl Watch {
         None
     }
 
-    /// Nothing is known any longer of the slack of the edge at this place, which then doesn't wait in the queue.
-    fn forget(&mut self, place: usize)
+    /// Nothing is known any longer of the slack of the edge at this place, which then doesn't wait in the queue. Returns its new
+    /// place.
+    fn forget(&mut self, place: usize) -> usize
         requires { place < length self.old.edges }
         ensures count { self.new.edge_count ≡ self.old.edge_count }
         ensures nodes { self.new.nodes ≡ self.old.nodes }
         ensures edges { (e : ℕ) → is_in self.new.edges e ≡ is_in self.old.edges e }
         ensures bounds { StaysRight (λ e. (e == get_or self.old.edges place 0) ≡ false) self.old self.new }
+        ensures within { (self.new.queued ≤ result) × (result < length self.new.edges) }
+        ensures at { get_or self.new.edges result 0 ≡ get_or self.old.edges place 0 }
     {
         let place = self.taken_from_queue(place);
         self.keeps();
         self.set_bound(place, 0);
+        place
     }
 
     /// Watches the edge no longer.

@@ -106,7 +106,7 @@ growing_raised name v watched w = relayered_growing (change name (taller_node v)
 pub growing_taller : ForestStateAbsorbed → (w : GrowingValue) (k u v name : ℕ) (new : Watched) → IsGrowing w
     → IsWithinLimits (problem_in w.part) → MayAbsorb (problem_in w.part) w.part.nodes name k u v
     → (roles_among w.forest).is_plus name ≡ true → All (λ j. j < new.edge_count) new.edges
-    → WatchesTaken (problem_in w.part) (absorbed_nodes name v w.part.nodes) v w.watched new → IsGrowing (growing_raised name v new w)
+    → WatchesTaken (problem_in w.part) (roles_among w.forest) (absorbed_nodes name v w.part.nodes) v w.watched new → IsGrowing (growing_raised name v new w)
 growing_taller law w k u v name new are limits may plus within watched =
     let p : Problem = problem_in w.part in
     let roles : Roles = roles_among w.forest in
@@ -205,7 +205,7 @@ last_is_below w name last vertices are may is limits same =
 pub growing_lower : ForestStateUncovered → (w : GrowingValue) (name last : ℕ) (new : Watched) → IsGrowing w
     → (roles_among w.forest).is_minus name ≡ true → MayUncover w.part.nodes name
     → last_or None (top_at w.part.nodes name) ≡ Some last → All (λ j. j < new.edge_count) new.edges
-    → WatchesTaken (problem_in w.part) (uncovered_nodes name w.part.nodes) last w.watched new → IsGrowing (growing_lowered name new w)
+    → WatchesTaken (problem_in w.part) (roles_among w.forest) (uncovered_nodes name w.part.nodes) last w.watched new → IsGrowing (growing_lowered name new w)
 growing_lower law w name last new are minus may is within taken =
     let p : Problem = problem_in w.part in
     let roles : Roles = roles_among w.forest in

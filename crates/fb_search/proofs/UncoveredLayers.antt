@@ -1,5 +1,5 @@
 -- A minus node's empty layer taken off keeps what every search keeps, and leaves less to do.
-use Rattle.std.proofs.Common.{ℕ, ◌≡◌, ◌==◌, ◌<◌, ◌⊎◌, inl, inr, ◌||◌, Bool, true, false, List, [], ◌∷◌, ◌++◌, length, All, Option, Some, None, refl, sym, ap, ◌∙◌, subst, if◌then◌else◌}
+use Rattle.std.proofs.Common.{ℕ, ◌≡◌, ◌==◌, ◌<◌, ◌⊎◌, inl, inr, ◌||◌, Bool, true, false, List, [], ◌∷◌, ◌++◌, length, All, Option, Some, None, le_refl, refl, sym, ap, ◌∙◌, subst, if◌then◌else◌}
 use Rattle.std.specs.List.{last_or}
 use Rattle.std.proofs.lemmas.Bool.{cases_Bool, false≢true, eqb-true, ne_eqb}
 use Rattle.fb_graph.specs.Parity.{is_in}
@@ -79,7 +79,7 @@ module _ (roles : Roles) (nodes : List Node) (name v : ℕ) (apart : (n : ℕ) �
           (under_one (edge_at p.edges k).second (edge_at p.edges k).first over
           (swapped (absorbed_nodes name v nodes) (edge_at p.edges k).first (edge_at p.edges k).second one))))
 
-  module _ (p : Problem) (old new : Watched) (taken : WatchesTaken p nodes v old new) where
+  module _ (p : Problem) (old new : Watched) (taken : WatchesTaken p roles nodes v old new) where
     -- its edges come under watch
     pub watch_freed : All (λ k. k < length p.edges) new.edges → IsWatched p roles (absorbed_nodes name v nodes) old.edges
         → IsWatched p roles nodes new.edges
@@ -93,9 +93,9 @@ module _ (roles : Roles) (nodes : List Node) (name v : ℕ) (apart : (n : ℕ) �
             ⊎ (is_covered_by roles.is_plus nodes (edge_at p.edges k).second ≡ true)
             → ¬ AreUnderOne nodes (edge_at p.edges k).first (edge_at p.edges k).second
             → (touches v (edge_at p.edges k) ≡ true) ⊎ (touches v (edge_at p.edges k) ≡ false) → is_in new.edges k ≡ true
-        by k less over apart_ends (inl touch) = watched_at p nodes v old new taken k less touch apart_ends
+        by k less over apart_ends (inl touch) = watched_at p roles nodes v old new taken k less touch apart_ends
         by k less over apart_ends (inr away) =
-            watched_elsewhere p nodes v old new taken k less away
+            watched_elsewhere p roles nodes v old new taken k less away
             ∙ (watch_lower p old.edges watch).near k less over apart_ends
 
     pub bounded_freed : ((u : ℕ) → height_of (all_cuts nodes) u ≡ height_of (all_cuts (absorbed_nodes name v nodes)) u)
@@ -105,6 +105,7 @@ module _ (roles : Roles) (nodes : List Node) (name v : ℕ) (apart : (n : ℕ) �
         (λ k away.
         slack_beside roles (absorbed_nodes name v nodes) nodes v (edge_at p.edges k) heights
         (λ u other. sym (taller_covers nodes name v u (ne_eqb v u other))) away)
+        (λ k touch. le_refl (slack_at p roles nodes k))
 
 -- the vertices of a node with one more
 top_taller : (name v : ℕ) (nodes : List Node) → is_live nodes name ≡ true

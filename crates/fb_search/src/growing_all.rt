@@ -71,8 +71,8 @@ fn grow_through<'a, L: Ledger>(
         growing.make_room()?;
         growing.keeps();
         match growing.next_event(&mut looks) {
-            Obstacle::Absorb(edge) => growing.absorb(edge),
-            Obstacle::LayerEmpty(node) => growing.uncover(node),
+            Obstacle::Absorb(edge) => growing.absorb(edge, &mut looks),
+            Obstacle::LayerEmpty(node) => growing.uncover(node, &mut looks),
             Obstacle::Boundary(edge) => growing = growing.end_at_boundary(alloc, edge)?,
             Obstacle::Meet(edge) => growing = growing.meet(alloc, edge)?,
             Obstacle::PlusPair(edge) => growing = growing.join_or_match(alloc, edge)?,

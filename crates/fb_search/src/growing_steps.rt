@@ -9,10 +9,11 @@ ghost use Rattle.fb_search.specs.InternalGrowing.{roles_among};
 ghost use Rattle.fb_search.specs.InternalGrowth.{Blocks, GrowsOn, grown_by};
 
 use crate::growing::Growing;
-use fb_graph::Scope;
+use fb_graph::{Scope, Steps};
 use fb_obstacles::{free_end, watch_taken};
 use fb_regions::NodeId;
 use fb_trees::grow_all;
+use std::sync::ledger::Ledger;
 
 impl Growing<'_> {
     /// Each minus node of all trees shrinks by this much, and each plus node grows by it. The bounds fall by twice as much:
@@ -33,8 +34,8 @@ impl Growing<'_> {
     }
 
     /// The plus node absorbs the vertex to which the tight edge leads. The edges of the vertex are watched from now on,
-    /// but for those that lead to other vertices of the node.
-    pub(crate) fn absorb(&mut self, edge: u32)
+    /// but for those that lead to other vertices of the node. Counts a look for each.
+    pub(crate) fn absorb<L: Ledger>(&mut self, edge: u32, looks: &mut Steps<L>)
         requires { Blocks self.old (Absorb edge) }
         ensures { GrowsOn self.old self.new }
     {
@@ -43,13 +44,20 @@ impl Growing<'_> {
         scope.limits();
         let taken = free_end(&scope, &parts.regions, edge);
         parts.regions.absorb(edge);
-        watch_taken(watch, &scope, &parts.regions, taken);
+        watch_taken(
+            watch,
+            &scope,
+            &parts.regions,
+            &parts.regions,
+            taken,
+            looks,
+        );
         watch.keeps();
     }
 
     /// Removes the empty top layer of the minus node, so that no node holds its last vertex any longer. The edges of that
-    /// vertex are watched from now on, and nothing is known of their slacks.
-    pub(crate) fn uncover(&mut self, node: NodeId)
+    /// vertex are watched from now on. Counts a look for each.
+    pub(crate) fn uncover<L: Ledger>(&mut self, node: NodeId, looks: &mut Steps<L>)
         requires { Blocks self.old (LayerEmpty node) }
         ensures { GrowsOn self.old self.new }
     {
@@ -58,7 +66,14 @@ impl Growing<'_> {
         scope.limits();
         let freed = parts.regions.last_vertex(node);
         parts.regions.uncover(node);
-        watch_taken(watch, &scope, &parts.regions, freed);
+        watch_taken(
+            watch,
+            &scope,
+            &parts.regions,
+            &parts.regions,
+            freed,
+            looks,
+        );
         watch.keeps();
     }
 }
