@@ -1,14 +1,15 @@
 -- Edges that come under watch, vertex after vertex, and a node's vertices passed over from the last one back.
-use Rattle.std.proofs.Common.{ℕ, ◌≡◌, ◌+◌, ◌<◌, ◌≤◌, ◌==◌, ◌||◌, ◌⊎◌, inl, inr, true, false, List, [], ◌∷◌, ◌++◌, length, take, filter, get_or, refl, sym, ap, ◌∙◌, arith, reverse, Option, Some, append-nil, append_assoc}
+use Rattle.std.proofs.Common.{ℕ, ◌≡◌, ◌+◌, ◌<◌, ◌≤◌, ◌==◌, ◌&&◌, ◌||◌, ◌⊎◌, Bool, inl, inr, true, false, List, [], ◌∷◌, ◌++◌, length, take, filter, get_or, refl, sym, ap, ◌∙◌, arith, reverse, Option, Some, append-nil, append_assoc}
 use Rattle.std.specs.List.{range_with_len}
-use Rattle.std.proofs.lemmas.Bool.{cases_lt, eq-eqb, false≢true, or_right}
+use Rattle.std.proofs.Math.Bool.{and-false}
+use Rattle.std.proofs.lemmas.Bool.{cases_lt, eq-eqb, false≢true, or_cases, or_left, or_right}
 use Rattle.std.proofs.lemmas.List.{get_or_past, reverse-append, reverse-reverse, take_more}
 use Rattle.fb_graph.specs.Parity.{is_in}
 use Rattle.fb_graph.specs.Problem.{Problem, edge_at, no_edge, touches}
 use Rattle.fb_graph.proofs.Members.{is_in_push, is_in-take_more, is_in-append}
 use Rattle.fb_graph.proofs.ParitySums.{differ_self}
-use Rattle.fb_graph.proofs.Ranges.{filter-range_below, is_in-filter-range}
-use Rattle.fb_graph.proofs.Sets.{equal_sym, is_in-All, is_in-cases, is_in-head}
+use Rattle.fb_graph.proofs.Ranges.{is_in-filter-range}
+use Rattle.fb_graph.proofs.Sets.{equal_sym, is_in-cases, is_in-filter, is_in-head}
 use Rattle.fb_obstacles.specs.Watched.{AreBounded, Watched}
 use Rattle.fb_obstacles.specs.InternalWatch.{StaysRight}
 use Rattle.fb_obstacles.specs.InternalWatching.{Enters, Watches}
@@ -32,14 +33,24 @@ untouched p v es k e out = by (cases_lt k (length p.edges))
         sym (ap (λ l. is_in l k) e ∙ is_in-filter-range (λ j. touches v (edge_at p.edges j)) (length p.edges) k less) ∙ out
     by (inr past) = ap (touches v) (get_or_past p.edges k no_edge past) ∙ differ_self (v == 0)
 
--- and one that is listed there does
+-- an edge that doesn't touch the vertex isn't listed at it
+pub unlisted : (p : Problem) (v : ℕ) (es : List ℕ) (k : ℕ)
+    → es ≡ filter (λ k. touches v (edge_at p.edges k)) (range_with_len 0 (length p.edges))
+    → touches v (edge_at p.edges k) ≡ false → is_in es k ≡ false
+unlisted p v es k e out =
+    ap (λ l. is_in l k) e
+    ∙ (is_in-filter (λ j. touches v (edge_at p.edges j)) (range_with_len 0 (length p.edges)) k
+    ∙ (ap (λ b. is_in (range_with_len 0 (length p.edges)) k && b) out ∙ and-false (is_in (range_with_len 0 (length p.edges)) k)))
+
+-- so one that is listed there does
 pub touched : (p : Problem) (v : ℕ) (es : List ℕ) (k : ℕ)
     → es ≡ filter (λ k. touches v (edge_at p.edges k)) (range_with_len 0 (length p.edges)) → is_in es k ≡ true
     → touches v (edge_at p.edges k) ≡ true
-touched p v es k e held =
-    let there : is_in (filter (λ j. touches v (edge_at p.edges j)) (range_with_len 0 (length p.edges))) k ≡ true = sym (ap (λ l. is_in l k) e) ∙ held in
-    let less : k < length p.edges = is_in-All (λ j. j < length p.edges) _ (filter-range_below (λ j. touches v (edge_at p.edges j)) (length p.edges)) k there in
-    sym (is_in-filter-range (λ j. touches v (edge_at p.edges j)) (length p.edges) k less) ∙ there
+touched p v es k e held = by (touches v (edge_at p.edges k)) refl
+  where
+    by : (b : Bool) → touches v (edge_at p.edges k) ≡ b → b ≡ true
+    by true is = refl
+    by false is = absurd (false≢true (sym (unlisted p v es k e is) ∙ held))
 
 -- vertex after vertex
 pub watched_none : (p : Problem) (w : Watched) → Watches p [] w w
@@ -48,6 +59,7 @@ watched_none p w = record {
   minus = refl;
   kept = λ k h. h;
   near = λ v k mem below touch. absurd (false≢true mem);
+  only = λ k held none. held;
   bounds = λ before after less right.
       bounded_by before after w (λ k. less k (λ v mem. absurd (false≢true mem))) right;
 }
@@ -64,6 +76,9 @@ watched_more p vs v es a b c e before more = record {
       (λ k. (u : ℕ) → is_in (v ∷ vs) u ≡ true → touches u (edge_at p.edges k) ≡ false) (is_in es) a b c away before.bounds
       more.bounds;
   kept = λ k h. more.kept k (before.kept k h);
+  only = λ k held none.
+      before.only k (more.only k held (unlisted p v es k e (none v (is_in-head v vs))))
+      (λ u mem. none u (or_right (v == u) (is_in vs u) mem));
   near = λ u k mem below touch. near u k below touch (is_in-cases v vs u mem);
 }
   where
@@ -91,6 +106,7 @@ entered_on edges i a b c lt room entered right minus before = record {
   minus = minus ∙ before.minus;
   kept = λ k h. still k (before.kept k h);
   entered = λ k mem. by k (is_in-take_more edges i k lt mem);
+  only = λ k held absent. was k absent (or_cases (is_in b.edges k) (k == get_or edges i 0) (sym (entered k) ∙ held));
   bounds =
       right_twice (λ k. is_in (take i edges) k ≡ false) (λ k. is_in (take (i + 1) edges) k ≡ false)
       (λ k. k == get_or edges i 0) a b c out before.bounds right;
@@ -102,6 +118,21 @@ entered_on edges i a b c lt room entered right minus before = record {
     by : (k : ℕ) → (is_in (take i edges) k ≡ true) ⊎ (get_or edges i 0 ≡ k) → is_in c.edges k ≡ true
     by k (inl old) = still k (before.entered k old)
     by k (inr same) = entered k ∙ or_right (is_in b.edges k) (k == get_or edges i 0) (eq-eqb k (get_or edges i 0) (sym same))
+
+    more : (k : ℕ) → is_in (take (i + 1) edges) k ≡ (is_in (take i edges) k || (get_or edges i 0 == k))
+    more k = ap (λ l. is_in l k) (take_more edges i 0 lt) ∙ is_in_push (take i edges) (get_or edges i 0) k
+
+    was : (k : ℕ) → is_in (take (i + 1) edges) k ≡ false
+        → (is_in b.edges k ≡ true) ⊎ ((k == get_or edges i 0) ≡ true) → is_in a.edges k ≡ true
+    was k absent (inl held) = before.only k held (absent_before (is_in (take i edges) k) refl)
+      where
+        absent_before : (x : Bool) → is_in (take i edges) k ≡ x → is_in (take i edges) k ≡ false
+        absent_before false is = is
+        absent_before true is =
+            absurd (false≢true (sym absent ∙ (more k ∙ or_left (is_in (take i edges) k) (get_or edges i 0 == k) is)))
+    was k absent (inr same) =
+        absurd (false≢true (sym absent ∙ (more k
+        ∙ or_right (is_in (take i edges) k) (get_or edges i 0 == k) (equal_sym (get_or edges i 0) k ∙ same))))
 
     out : (k : ℕ) → (k == get_or edges i 0) ≡ false → is_in (take i edges) k ≡ false → is_in (take (i + 1) edges) k ≡ false
     out k other absent =

@@ -10,22 +10,25 @@ use Rattle.fb_obstacles.specs.Obstacles.{slack_at}
 use Rattle.fb_obstacles.specs.InternalWatch.{StaysRightAbove}
 use Rattle.fb_obstacles.specs.Watched.{AreBounded, NodeBound, Watched, has_bound}
 
--- The edges are watched, and all that were watched before.
+-- The edges are watched, and those that were watched before.
 pub record Enters (edges : List ℕ) (old new : Watched) : Type 0 where
   pub room : new.edge_count ≡ old.edge_count
   pub minus : new.nodes ≡ old.nodes
   pub kept : (k : ℕ) → is_in old.edges k ≡ true → is_in new.edges k ≡ true
   pub entered : (k : ℕ) → is_in edges k ≡ true → is_in new.edges k ≡ true
+  pub only : (k : ℕ) → is_in new.edges k ≡ true → is_in edges k ≡ false → is_in old.edges k ≡ true
   pub bounds : (before after : ℕ → ℕ) → ((k : ℕ) → is_in edges k ≡ false → before k ≤ after k)
       → AreBounded before old → AreBounded after new
 
--- The edges with an end at one of the vertices are watched, and all that were watched before.
+-- The edges with an end at one of the vertices are watched, and those that were watched before.
 pub record Watches (p : Problem) (vertices : List ℕ) (old new : Watched) : Type 0 where
   pub room : new.edge_count ≡ old.edge_count
   pub minus : new.nodes ≡ old.nodes
   pub kept : (k : ℕ) → is_in old.edges k ≡ true → is_in new.edges k ≡ true
   pub near : (v k : ℕ) → is_in vertices v ≡ true → k < length p.edges → touches v (edge_at p.edges k) ≡ true
       → is_in new.edges k ≡ true
+  pub only : (k : ℕ) → is_in new.edges k ≡ true
+      → ((v : ℕ) → is_in vertices v ≡ true → touches v (edge_at p.edges k) ≡ false) → is_in old.edges k ≡ true
   pub bounds : (before after : ℕ → ℕ)
       → ((k : ℕ) → ((v : ℕ) → is_in vertices v ≡ true → touches v (edge_at p.edges k) ≡ false) → before k ≤ after k)
       → AreBounded before old → AreBounded after new

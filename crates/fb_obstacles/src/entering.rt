@@ -1,6 +1,6 @@
 //! What comes under watch: the edges at a node, those at a vertex that a node absorbs, and minus nodes.
 
-ghost use Rattle.std.specs.Prelude.{◌≡◌, ◌<◌, ◌+◌, true, [], ◌*◌, ◌∷◌, All, OnOk, filter, length};
+ghost use Rattle.std.specs.Prelude.{◌≡◌, ◌<◌, ◌+◌, true, [], ◌*◌, ◌∷◌, All, OnErr, OnOk, filter, length};
 ghost use Rattle.std.specs.List.{range_with_len};
 ghost use Rattle.fb_graph.specs.Problem.{edge_at, touches};
 ghost use Rattle.fb_graph.specs.Dual.{is_live, top_at};
@@ -111,7 +111,8 @@ pub fn enter_minus<S: Scope>(
     node: NodeId,
 ) -> Result<(), NoMemory>
     requires { is_live regions.now.nodes node ≡ true }
-    ensures { OnOk result (EntersNode node (2 * (node_named regions.now.nodes node).top.value) watch.old watch.new) }
+    ensures ok { OnOk result (EntersNode node (2 * (node_named regions.now.nodes node).top.value) watch.old watch.new) }
+    ensures err { OnErr result (watch.new ≡ watch.old) }
 {
     watch.enter_node(node, regions.top_value(node))
 }

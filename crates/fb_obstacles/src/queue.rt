@@ -1,6 +1,6 @@
 //! A queue of the growths at which edges may become tight, or minus nodes empty.
 
-ghost use Rattle.std.specs.Prelude.{ℕ, ◌≡◌, ◌+◌, ◌<◌, ◌≤◌, ◌==◌, ◌^◌, ◌&&◌, ◌||◌, true, false, [], ◌∷◌, length, get_or, All, IfNone, IfSome, OnOk, MatchOption};
+ghost use Rattle.std.specs.Prelude.{ℕ, ◌≡◌, ◌+◌, ◌<◌, ◌≤◌, ◌==◌, ◌^◌, ◌&&◌, ◌||◌, true, false, [], ◌∷◌, length, get_or, All, IfNone, IfSome, OnErr, OnOk, MatchOption};
 ghost use Rattle.std.specs.BinaryHeap.{heap_capacity, heap_items, heap_len};
 ghost use Rattle.std.specs.List.Sorted.{IsPermutation};
 ghost use Rattle.fb_obstacles.specs.InternalHeap.{IsDueHeap, due_times};
@@ -90,6 +90,7 @@ impl DueTimes {
     pub fn add(&mut self, growth: u64, number: u64) -> Result<(), NoMemory>
         ensures added { OnOk result (is_due self.new growth number ≡ true) }
         ensures kept { OnOk result ((v k : ℕ) → is_due self.old v k ≡ true → is_due self.new v k ≡ true) }
+        ensures err { OnErr result (self.new ≡ self.old) }
     {
         self.heap.reserve(1)?;
         let due = Due {

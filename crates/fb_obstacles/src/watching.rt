@@ -1,4 +1,4 @@
-ghost use Rattle.std.specs.Prelude.{ℕ, ◌≡◌, ◌+◌, ◌-◌, ◌*◌, ◌/◌, ◌^◌, ◌<◌, ◌≤◌, ◌==◌, ◌&&◌, ◌||◌, true, false, not, [], ◌∷◌, ◌++◌, length, map, get_or, set, nat_eq, nat_lt, None, swap, All, IfNone, IfOk, IfSome, OnOk, MatchOption, if◌then◌else◌};
+ghost use Rattle.std.specs.Prelude.{ℕ, ◌≡◌, ◌+◌, ◌-◌, ◌*◌, ◌/◌, ◌^◌, ◌<◌, ◌≤◌, ◌==◌, ◌&&◌, ◌||◌, true, false, not, [], ◌∷◌, ◌++◌, length, map, get_or, set, nat_eq, nat_lt, None, swap, All, IfNone, IfOk, IfSome, OnErr, OnOk, MatchOption, if◌then◌else◌};
 ghost use Rattle.std.specs.List.{position_or_len, swap_remove};
 ghost use Rattle.indexmap.specs.IndexMap.{get, keys, values, index_map_len, spare, set_value_at};
 ghost use Rattle.fb_graph.specs.Parity.{is_in};
@@ -394,7 +394,8 @@ impl Watch {
 
     /// Watches the node from now on, which has a top layer of this value and becomes minus. Takes memory for it.
     pub fn enter_node(&mut self, node: NodeId, value: u64) -> Result<(), NoMemory>
-        ensures { OnOk result (EntersNode node (2 * value) self.old self.new) }
+        ensures ok { OnOk result (EntersNode node (2 * value) self.old self.new) }
+        ensures err { OnErr result (self.new ≡ self.old) }
     {
         self.nodes.add(growth_after(self.lowered, value), node)?;
         Ok(())

@@ -30,7 +30,7 @@ pub kept_watches : (part : PartValue) (g : DecodingGraph) (t : PlanTree) (n : �
 kept_watches part g t n vs old new eg watches =
     let w : Watches (problem_at (graph_in part) t n no_shot) vs old new =
     subst (λ h. Watches (problem_at h t n no_shot) vs old new) eg watches in
-    record { room = w.room; minus = w.minus; kept = w.kept; near = w.near; bounds = w.bounds }
+    record { room = w.room; minus = w.minus; kept = w.kept; near = w.near; only = w.only; bounds = w.bounds }
 
 pub same_scope : (g h : DecodingGraph) (t s : PlanTree) (n m : ℕ) → g ≡ h → t ≡ s → n ≡ m
     → problem_at g t n no_shot ≡ problem_at h s m no_shot

@@ -56,7 +56,7 @@ returns c w met =
             refl c.requires.paced.paces (rw put at c.set_paces.ensures.paces);
       };
       keeps = met_attached w c.args.met _ met c.args.mate c.requires.couple limits c.enter_minus.new.watch c.watch_node.new.watch
-          c.keeps.ensures.within (rw c.set_paces.ensures.same at c.in_ok-enter_minus.ensures)
+          c.keeps.ensures.within (rw c.set_paces.ensures.same at c.in_ok-enter_minus.ensures.ok)
           (kept_watches part _ c.scope.result.now.plan.now c.scope.result.now.node _ c.enter_minus.new.watch
           c.watch_node.new.watch graph (rw c.set_paces.ensures.same at c.watch_node.ensures));
       grows_on = met_grows w c.args.met _ met c.args.mate c.requires.couple limits c.watch_node.new.watch;

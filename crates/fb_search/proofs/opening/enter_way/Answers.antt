@@ -30,7 +30,7 @@ loop-step-preserved-in-Out g c =
 pub loop-step-preserved : goal.loop-step-preserved
 loop-step-preserved g c =
     one_entered c.args.regions.now.nodes (g.R.Roles.role_of c.args.roles.now) c.args.steps.now c.loop-step.step-index _ _ c.args.watch.now c.loop-step.watch
-    c.enter_minus.new.watch c.loop-step-test.true refl c.in_ok-enter_minus-in-Minus.ensures c.loop-step.invariant
+    c.enter_minus.new.watch c.loop-step-test.true refl c.in_ok-enter_minus-in-Minus.ensures.ok c.loop-step.invariant
 
 pub returns : goal.returns
 returns g c =

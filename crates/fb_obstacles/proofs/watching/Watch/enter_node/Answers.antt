@@ -2,8 +2,8 @@ use Rattle.std.proofs.Common.{◌*◌, refl}
 use Rattle.fb_obstacles.proofs.NodeBounds.{bounds_kept, due_bound}
 use Rattle.fb_obstacles.proofs.watching.Watch.enter_node.Goals as goal
 
-pub returns : goal.returns
-returns c =
+pub returns-clause-ok : goal.returns-clause-ok
+returns-clause-ok c =
     rw (← c.self.view_is) (record {
       same = refl;
       entered = due_bound c.add.new.self c.self.inside.lowered c.growth_after.result c.args.node (2 * c.args.value)
