@@ -21,6 +21,6 @@ pub use fb_links::{CycleStep, LinkId, Links, NodeId};
 pub use fb_regions::{Role, Roles};
 pub use forest::{Forest, TreeId};
 pub use laws::{changes_by_number, links_by_number, paths_listed};
-pub use stepping::{grow_all, rest_tree, set_paces, step_nodes};
+pub use stepping::{grow_all, rest_tree, set_paces};
 pub use tree::Tree;
 pub use walks::{link_between, link_out};

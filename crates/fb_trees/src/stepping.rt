@@ -1,30 +1,19 @@
 //! How trees move the regions of their nodes: each node has the pace of its role, and a step is a step of the clock.
 
-ghost use Rattle.std.specs.Prelude.{◌≡◌, ◌&&◌, ◌∷◌, [], ℕ, Some, if◌then◌else◌};
+ghost use Rattle.std.specs.Prelude.{◌≡◌, ◌&&◌, ℕ, if◌then◌else◌};
 ghost use Rattle.fb_graph.specs.Dual.{is_live};
 ghost use Rattle.fb_graph.specs.Parity.{is_in};
 ghost use Rattle.fb_graph.specs.Steps.{MayStep, stepped_nodes};
-ghost use Rattle.fb_laws.specs.Trees.{roles_of};
 ghost use Rattle.fb_regions.specs.Paces.{IsRepaced, pace_in};
 ghost use Rattle.fb_regions.specs.declared.roles.Role.TheVariants.{Out};
 ghost use Rattle.fb_trees.specs.Branches.{Grown};
 ghost use Rattle.fb_trees.specs.Forests.{AreInPace, IsInside, IsTreeOf, all_roles, role_among, trees_in};
 ghost use Rattle.fb_trees.specs.Rooted.{is_node};
-ghost use Rattle.fb_trees.specs.TreesOver.{AreTreesOver, IsTreeOver, branch_names};
+ghost use Rattle.fb_trees.specs.TreesOver.{AreTreesOver, branch_names};
 
-use crate::{Branch, Forest, NodeId, Role, Tree};
+use crate::{Branch, Forest, NodeId, Role};
 use fb_graph::Scope;
 use fb_regions::Regions;
-
-/// Each minus node of the tree shrinks by this length, and each plus node grows by it. Takes constant time, and no memory.
-pub fn step_nodes<S: Scope>(regions: &mut Regions<S>, tree: &Tree, length: u64)
-    requires tree { IsTreeOver (S.problem regions.old.scope) tree.now regions.old.nodes }
-    requires paces { AreInPace regions.old (Some tree.now ∷ []) }
-    requires may { MayStep (S.problem regions.old.scope) (roles_of tree.now.root tree.now.branches) regions.old.nodes length }
-    ensures { regions.new ≡ record regions.old { nodes = stepped_nodes (roles_of tree.now.root tree.now.branches) length regions.old.nodes } }
-{
-    grow_all(regions, &tree.forest, length);
-}
 
 /// Each minus node of all trees shrinks by this length, and each plus node grows by it; nothing else changes. All of them
 /// move with the clock, so that it takes constant time. Takes no memory.
