@@ -19,7 +19,7 @@ use Rattle.fb_search.proofs.MinusBounds.{minus_fewer}
 use Rattle.fb_search.proofs.RolesAmong.{minus_among, minus_not_plus_among, role_minus_among}
 
 -- trees of their roots alone have no minus node
-bare_minus : (names : List ℕ) → all_minus (trees_in (bare_trees names)) ≡ []
+pub bare_minus : (names : List ℕ) → all_minus (trees_in (bare_trees names)) ≡ []
 bare_minus [] = refl
 bare_minus (n ∷ ns) = bare_minus ns
 

@@ -14,6 +14,7 @@ use Rattle.fb_trees.specs.Branches.{Grown}
 use Rattle.fb_trees.specs.Forests.{AreInPace, all_minus, all_plus, bare_trees, role_among, trees_in}
 use Rattle.fb_search.specs.InternalPaces.{ArePaced, rested_parts}
 use Rattle.fb_search.proofs.BegunForests.{bare_plus}
+use Rattle.fb_search.proofs.GrowingMinus.{bare_minus}
 
 -- the paces are the roles in the trees
 pub paced_roles : {S : Type 0} (r : Paced S) (forest : List (Option Grown)) → AreInPace r forest
@@ -88,10 +89,6 @@ paced_moved parts forest nodes are = record {
 pub scope_repaced : (parts : Parts) (new : Paced NodeScope) → IsRepaced parts.regions new → HasScope (rested_parts parts)
     → HasScope (rested_parts (record parts { regions = new }))
 scope_repaced parts new is has = subst (λ r. HasScope (record parts { regions = r })) (sym (ap rested is)) has
-
-bare_minus : (names : List ℕ) → all_minus (trees_in (bare_trees names)) ≡ []
-bare_minus [] = refl
-bare_minus (n ∷ ns) = bare_minus ns
 
 role_among_bare : (names : List ℕ) (n : ℕ) → role_among (bare_trees names) n ≡ (if is_in names n then Plus else Out)
 role_among_bare names n =
