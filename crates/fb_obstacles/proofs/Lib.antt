@@ -10,6 +10,7 @@ pub mod HeldEnds
 pub mod LeftEdges
 pub mod LookLimits
 pub mod LookPlaces
+pub mod MinusLooks
 pub mod NodeBounds
 pub mod NodeLooks
 pub mod QueuedEdges

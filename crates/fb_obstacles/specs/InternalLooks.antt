@@ -12,7 +12,7 @@ use Rattle.fb_regions.specs.Moves.{node_named}
 use Rattle.fb_regions.specs.declared.regions.Holder.{Holder}
 use Rattle.fb_regions.specs.declared.roles.Role.{Role}
 use Rattle.fb_regions.specs.declared.roles.Role.TheVariants as role
-use Rattle.fb_obstacles.specs.Obstacles.{BearsStep, HavePlusParity, Obstructs, residue_at, roles_by, slack_at}
+use Rattle.fb_obstacles.specs.Obstacles.{BearsStep, HavePlusParity, IsAtMinus, Obstructs, residue_at, roles_by, slack_at}
 use Rattle.fb_obstacles.specs.InnerEdges.{LeavesInner}
 use Rattle.fb_obstacles.specs.Watched.{AreBounded, Watched}
 use Rattle.fb_obstacles.specs.declared.obstacle.Obstacle.{Obstacle}
@@ -109,6 +109,12 @@ both_looks a (Blocked o) = Blocked o
 both_looks Clear b = b
 both_looks a Clear = a
 both_looks (Within i) (Within j) = Within (min i j)
+
+-- the look names an obstacle at a minus node
+abbrev pub IsMinusLook : Look → Type 0
+IsMinusLook Clear = ⊥
+IsMinusLook (Within bound) = ⊥
+IsMinusLook (Blocked o) = IsAtMinus o
 
 -- an edge with this slack bears each step that the look allows
 abbrev pub fits_within : Look → ℕ → Bool

@@ -139,6 +139,21 @@ IsAtEdge e (BlossomEmpty name) = ⊥
 IsAtEdge e (ZeroMinus name) = ⊥
 IsAtEdge e (Free k) = ⊥
 
+-- the obstacle is at a minus node
+abbrev pub IsAtMinus : Obstacle → Type 0
+IsAtMinus (Absorb k) = ⊥
+IsAtMinus (Boundary k) = ⊥
+IsAtMinus (Meet k) = ⊥
+IsAtMinus (PlusPair k) = ⊥
+IsAtMinus (LayerEmpty name) = Unit {0}
+IsAtMinus (BlossomEmpty name) = Unit {0}
+IsAtMinus (ZeroMinus name) = Unit {0}
+IsAtMinus (Free k) = ⊥
+
+-- each of these edges bears a step of length 1
+abbrev pub BearOne : Problem → Roles → List Node → List ℕ → Type 0
+BearOne p roles nodes ks = All (λ k. BearsStep roles nodes 1 (edge_at p.edges k)) ks
+
 -- nothing is in the way, and the length is the greatest by which the tree may step
 pub record IsFree (p : Problem) (roles : Roles) (nodes : List Node) (k : ℕ) : Type 0 where
   pub none : (o : Obstacle) → ¬ Obstructs p roles nodes o

@@ -1,8 +1,8 @@
 ghost use Rattle.std.specs.Prelude.{ℕ, ◌≡◌, ◌+◌, ◌<◌, ◌≤◌, true, List, length, get_or, All, IfNone, IfSome};
 ghost use Rattle.fb_graph.specs.Covers.{AreRoles};
-ghost use Rattle.fb_obstacles.specs.Obstacles.{HavePlusParity, AreMinusBounded, AreMinusLive, slack_at, roles_by};
+ghost use Rattle.fb_obstacles.specs.Obstacles.{BearOne, HavePlusParity, AreMinusBounded, AreMinusLive, slack_at, roles_by};
 ghost use Rattle.fb_obstacles.specs.Watched.{AreBounded};
-ghost use Rattle.fb_obstacles.specs.InternalLooks.{HasScanned, HasScannedAfter, IsSeen, LimitsMinus, both_looks, fits_within, minus_tops};
+ghost use Rattle.fb_obstacles.specs.InternalLooks.{HasScanned, HasScannedAfter, IsMinusLook, IsSeen, LimitsMinus, both_looks, fits_within, minus_tops};
 ghost use Rattle.fb_obstacles.specs.InternalWatch.{IsNext};
 
 use crate::ends::keeps_dual;
@@ -78,6 +78,7 @@ pub fn look_by_bounds<S: Scope, R: Roles, L: Ledger>(
     requires within { All (λ k. k < length (S.problem scope.now).edges) watch.old.edges }
     requires bounded { AreBounded (slack_at (S.problem scope.now) (roles_by (R.role_of roles.now)) regions.now.nodes) watch.old }
     ensures scanned { HasScanned (S.problem scope.now) (R.role_of roles.now) regions.now.nodes (minus_tops (roles_by (R.role_of roles.now)) regions.now.nodes) watch.old watch.new result }
+    ensures first { IsMinusLook result → BearOne (S.problem scope.now) (roles_by (R.role_of roles.now)) regions.now.nodes watch.old.edges }
     ensures minus { AreMinusBounded (roles_by (R.role_of roles.now)) regions.now.nodes watch.new }
     ensures looks { (looks.old ≤ looks.new) × (looks.new ≤ looks.old + length watch.old.edges) }
 {
@@ -115,6 +116,7 @@ fn scan_by_bounds<S: Scope, R: Roles, L: Ledger>(
     requires seen { IsSeen (S.problem scope.now) (R.role_of roles.now) regions.now.nodes watch.old.edges }
     requires bounded { AreBounded (slack_at (S.problem scope.now) (roles_by (R.role_of roles.now)) regions.now.nodes) watch.old }
     ensures scanned { HasScanned (S.problem scope.now) (R.role_of roles.now) regions.now.nodes (minus_tops (roles_by (R.role_of roles.now)) regions.now.nodes) watch.old watch.new result.look }
+    ensures first { IsMinusLook result.look → BearOne (S.problem scope.now) (roles_by (R.role_of roles.now)) regions.now.nodes watch.old.edges }
     ensures minus { AreMinusBounded (roles_by (R.role_of roles.now)) regions.now.nodes watch.new }
     ensures looks { (looks.old ≤ looks.new) × (looks.new ≤ looks.old + length watch.old.edges) }
 {
@@ -144,6 +146,7 @@ fn scan_edges<S: Scope, R: Roles, L: Ledger>(
     requires bounded { AreBounded (slack_at (S.problem scope.now) (roles_by (R.role_of roles.now)) regions.now.nodes) watch.old }
     requires minus { (tops : List ℕ) × LimitsMinus (S.problem scope.now) (R.role_of roles.now) regions.now.nodes tops minus }
     ensures scanned { HasScannedAfter (S.problem scope.now) (R.role_of roles.now) regions.now.nodes minus watch.old watch.new result.look }
+    ensures edges { IsMinusLook result.look → IsMinusLook minus }
     ensures nodes { watch.new.nodes ≡ watch.old.nodes }
     ensures looks { (looks.old ≤ looks.new) × (looks.new ≤ looks.old + length watch.old.edges) }
 {

@@ -5,7 +5,7 @@ ghost use Rattle.fb_graph.specs.Dual.{leaves};
 ghost use Rattle.fb_graph.specs.Covers.{AreRoles};
 ghost use Rattle.fb_laws.specs.Lengths.{HasPlus};
 ghost use Rattle.fb_obstacles.specs.InnerEdges.{LeavesInner};
-ghost use Rattle.fb_obstacles.specs.Obstacles.{AreMinusBounded, AreMinusLive, BearsStep, HavePlusParity, IsAtEdge, IsObstacle, IsWatched, Obstructs, roles_by, slack_at};
+ghost use Rattle.fb_obstacles.specs.Obstacles.{AreMinusBounded, AreMinusLive, BearOne, BearsStep, HavePlusParity, IsAtEdge, IsAtMinus, IsObstacle, IsWatched, Obstructs, roles_by, slack_at};
 ghost use Rattle.fb_obstacles.specs.Watched.{AreBounded};
 
 use crate::bounding::look_by_bounds;
@@ -39,6 +39,7 @@ pub fn next_obstacle<S: Scope, R: Roles, L: Ledger>(
     requires watched { IsWatched (S.problem scope.now) (roles_by (R.role_of roles.now)) regions.now.nodes watch.old.edges }
     requires bounded { AreBounded (slack_at (S.problem scope.now) (roles_by (R.role_of roles.now)) regions.now.nodes) watch.old }
     ensures obstacle { IsObstacle (S.problem scope.now) (roles_by (R.role_of roles.now)) regions.now.nodes result }
+    ensures first { IsAtMinus result → BearOne (S.problem scope.now) (roles_by (R.role_of roles.now)) regions.now.nodes watch.old.edges }
     ensures left { LeavesInner (S.problem scope.now) regions.now.nodes watch.old watch.new }
     ensures watched { IsWatched (S.problem scope.now) (roles_by (R.role_of roles.now)) regions.now.nodes watch.new.edges }
     ensures bounded { AreBounded (slack_at (S.problem scope.now) (roles_by (R.role_of roles.now)) regions.now.nodes) watch.new }

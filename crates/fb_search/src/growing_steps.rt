@@ -44,14 +44,7 @@ impl Growing<'_> {
         scope.limits();
         let taken = free_end(&scope, &parts.regions, edge);
         parts.regions.absorb(edge);
-        watch_taken(
-            watch,
-            &scope,
-            &parts.regions,
-            &parts.regions,
-            taken,
-            looks,
-        );
+        watch_taken(watch, &scope, &parts.regions, &parts.regions, taken, looks);
         watch.keeps();
     }
 
@@ -66,14 +59,7 @@ impl Growing<'_> {
         scope.limits();
         let freed = parts.regions.last_vertex(node);
         parts.regions.uncover(node);
-        watch_taken(
-            watch,
-            &scope,
-            &parts.regions,
-            &parts.regions,
-            freed,
-            looks,
-        );
+        watch_taken(watch, &scope, &parts.regions, &parts.regions, freed, looks);
         watch.keeps();
     }
 }

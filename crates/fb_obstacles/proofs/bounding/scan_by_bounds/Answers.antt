@@ -3,6 +3,7 @@ use Rattle.std.proofs.lemmas.List.Elements.{All-head, All-nil, All-cons}
 use Rattle.fb_obstacles.specs.Obstacles.{roles_by}
 use Rattle.fb_obstacles.specs.InternalLooks.{IsAtMostEach, minus_tops}
 use Rattle.fb_obstacles.proofs.BoundedScans.{scanned_before, scanned_since}
+use Rattle.fb_obstacles.proofs.MinusLooks.{bear_one}
 use Rattle.fb_obstacles.proofs.bounding.scan_by_bounds.Goals as goal
 
 pub scan_edges-requires-clause-minus : goal.scan_edges-requires-clause-minus
@@ -39,3 +40,12 @@ returns-clause-scanned g c =
     (scanned_since (g.S.Scope.problem c.args.scope.now) (g.R.Roles.role_of c.args.roles.now) c.args.regions.now.nodes
     (1 ∷ []) c.args.watch.now c.look_at_minus-minus.new.watch c.scan_edges-look.new.watch c.scan_edges-look.result.look
     c.look_at_minus-minus.ensures.same (c.scan_edges-look.ensures.scanned (1 ∷ []) at_most_one)) c.and.ensures
+
+pub returns-clause-first : goal.returns-clause-first
+returns-clause-first g c =
+    bear_one (g.S.Scope.problem c.args.scope.now) (roles_by (g.R.Roles.role_of c.args.roles.now)) c.args.regions.now.nodes (1 ∷ [])
+    c.args.watch.now.edges c.scan_edges-look.result.look c.look_at_minus-minus.result c.and.result
+    (scanned_since (g.S.Scope.problem c.args.scope.now) (g.R.Roles.role_of c.args.roles.now) c.args.regions.now.nodes
+    (1 ∷ []) c.args.watch.now c.look_at_minus-minus.new.watch c.scan_edges-look.new.watch c.scan_edges-look.result.look
+    c.look_at_minus-minus.ensures.same (c.scan_edges-look.ensures.scanned (1 ∷ []) at_most_one)).limits
+    c.and.ensures c.scan_edges-look.ensures.edges
