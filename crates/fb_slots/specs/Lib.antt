@@ -4,5 +4,6 @@ pub mod Listed
 pub mod Numbers
 pub mod Ordered
 pub mod Places
+pub mod Runs
 pub mod Seats
 pub mod Slots

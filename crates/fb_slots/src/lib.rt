@@ -8,11 +8,13 @@ mod ends;
 mod history;
 mod law;
 mod places;
+mod run;
 mod seats;
 mod ticket;
 mod views;
 
 pub use board::{After, Closed, SlotBook, Taken};
 pub use history::history_of;
+pub use run::Run;
 pub use seats::SlotSeat;
 pub use ticket::Ticket;
