@@ -2,7 +2,8 @@
 
 use crate::stopped::Stopped;
 use crate::workers::{Listed, Lister, Pair, SLOTS, are_whole};
-use fb_crew::{OpenGate, Worked};
+use fb_crew::OpenGate;
+use fb_desk::Worked;
 use fb_desk::{work_all, work_here};
 use fb_plan::Job;
 use std::alloc::Global;

@@ -304,7 +304,7 @@ fn list_by<'a, G: Gate, R: Threads + Sync>(
 
 /// One root's piece lists its nodes in the order of the tree, and the tools count each once.
 fn lists_the_tree(worked: &Worked<Listed<'_>, u32>) -> Result<(), Stopped> {
-    let [root] = worked.roots.as_slice() else {
+    let [root] = worked.run.roots() else {
         return Err(Stopped::Differs("the number of roots"));
     };
     Stopped::unless(root.made.as_slice() == [0, 1, 2].as_slice(), "the order of the nodes")?;
@@ -324,8 +324,8 @@ pub fn meet_at_the_gate<R: Threads + Sync>(rt: &R, alloc: Global) -> Result<(), 
     let worked = list_by(rt, alloc, &Lister::new(&job), 2, &gate)?;
     Stopped::unless(gate.has_met(), "whether two units meet")?;
     lists_the_tree(&worked)?;
-    Stopped::unless(worked.history.len() == 6, "the length of the history")?;
-    Stopped::unless(gate.has_seen(&worked.history), "who came to the gate")
+    Stopped::unless(worked.run.history().len() == 6, "the length of the history")?;
+    Stopped::unless(gate.has_seen(worked.run.history()), "who came to the gate")
 }
 
 /// One worker alone meets nobody at the gate.
@@ -376,13 +376,13 @@ fn list_many<R: Threads + Sync>(rt: &R, alloc: Global, workers: u32) -> Result<(
     let Pair { graph, plan, shots } = Pair::many(alloc)?;
     let job = Job::new(&graph, &plan, shots);
     let worked = list_by(rt, alloc, &Lister::new(&job), workers, &OpenGate)?;
-    Stopped::unless(are_whole(&worked.roots), "the roots of many slots")?;
+    Stopped::unless(are_whole(worked.run.roots()), "the roots of many slots")?;
     let mut items = 0;
     for count in &worked.tools {
         items += *count;
     }
     Stopped::unless(worked.tools.len() == workers as usize && items == 3 * SLOTS, "the items of many slots")?;
-    let history = worked.history.as_slice();
+    let history = worked.run.history();
     let events = 6 * u64::from(SLOTS);
     Stopped::unless(history.len() as u64 == events && worked.made == events, "the events of many slots")?;
     for place in 0..history.len() {
@@ -405,11 +405,11 @@ pub fn are_no_more_than_units<R: Threads + Sync>(rt: &R, alloc: Global) -> Resul
     let job = Job::new(&graph, &plan, shots);
     let worked = list_by(rt, alloc, &Lister::new(&job), 64, &OpenGate)?;
     lists_the_tree(&worked)?;
-    let few = worked.history.iter().all(|entry| entry.worker < 2);
+    let few = worked.run.history().iter().all(|entry| entry.worker < 2);
     Stopped::unless(few && worked.tools.len() == 64, "the number of workers")?;
     let none = Job::new(&graph, &plan, Vec::new(alloc));
     let worked = list_by(rt, alloc, &Lister::new(&none), 3, &OpenGate)?;
-    Stopped::unless(worked.roots.is_empty() && worked.history.is_empty(), "a job without slots")
+    Stopped::unless(worked.run.roots().is_empty() && worked.run.history().is_empty(), "a job without slots")
 }
 
 /// The calling thread does each item once.
@@ -418,5 +418,5 @@ pub fn work_on_the_calling_thread(alloc: Global) -> Result<(), Stopped> {
     let job = Job::new(&graph, &plan, shots);
     let mut items = 0;
     let finished = work_here(alloc, &job, &Lister::new(&job), &mut items)?;
-    Stopped::unless(finished.roots.len() == 1 && items == 3, "the items of the calling thread")
+    Stopped::unless(finished.run.roots().len() == 1 && items == 3, "the items of the calling thread")
 }

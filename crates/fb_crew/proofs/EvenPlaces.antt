@@ -25,7 +25,7 @@ use Rattle.fb_book.proofs.Trees.{forest_of_tree, small_tree}
 use Rattle.fb_slots.specs.Ordered.{IsByItem}
 use Rattle.fb_crew.proofs.Order.{by_item, nodes_within}
 use Rattle.fb_crew.specs.InternalWindows.{AreOddAt, IsSorted, SortingLaws, even_of, even_places, rows_by, with_places}
-use Rattle.fb_crew.specs.Windows.{AreRows, IsHistoryOf, IsShotRow, best_places, is_best}
+use Rattle.fb_crew.specs.Windows.{AreRows, IsHistoryOf, IsShotRow, best_places, is_best, seat_count}
 
 module _ (g : DecodingGraph) where
   pub rows_right : (odd : List (Option ℕ)) (shots : List ShotValue) (solved : List Row) → AreOddAt g shots odd
@@ -290,17 +290,18 @@ module _ (t : PlanTree) (tree : IsTree t) (workers more : ℕ) (odd : List (Opti
 
   pub history_of : (history : List Entry) → length odd ≤ more
       → IsComplete (kids_in t.units t.joins) n (length places * n) history → All (λ e. e.worker ≤ workers) history
-      → IsByItem n history
+      → (seats : ℕ) → All (λ e. e.worker < seats) history → IsByItem n history
       → IsCompleteOn places (kids_in t.units t.joins) n (more * n) (with_places places history)
       × All (λ e. is_in places e.slot ≡ true) (with_places places history) × All (λ e. e.worker ≤ workers) (with_places places history)
-      × IsByItem n (with_places places history)
-  history_of history enough complete by order = (
+      × All (λ e. e.worker < seats) (with_places places history) × IsByItem n (with_places places history)
+  history_of history enough complete by seats seated order = (
     subst (λ on. IsCompleteOn on (kids_in t.units t.joins) n (more * n) (with_places places history)) (images places)
         (renumbering_completes at t.units t.joins (length places) more all history (renumbering enough) some_units forest
         (complete_on_slots all (kids_in t.units t.joins) n (length places * n) history all_slots complete)),
     All-map (λ e. e.slot < length places) (λ e. is_in places e.slot ≡ true) (renumbered_entry at) (λ e less. in_places places e.slot less) history
         (renumbering_allows at t.units t.joins (length places) more history complete.statuses (renumbering enough) forest complete.replayed).slots_are,
     All-map (λ e. e.worker ≤ workers) (λ e. e.worker ≤ workers) (renumbered_entry at) (λ e le. le) history by,
+    All-map (λ e. e.worker < seats) (λ e. e.worker < seats) (renumbered_entry at) (λ e less. less) history seated,
     by_item n (length places) at (renumbering enough).rising history
         (renumbering_allows at t.units t.joins (length places) more history complete.statuses (renumbering enough) forest complete.replayed).slots_are
         (nodes_within (kids_in t.units t.joins) n (all_idle (length places * n)) complete.statuses history complete.replayed) order,
@@ -314,10 +315,11 @@ slots_within t tree slots history complete =
     (forest_of_places t.units t.joins (small_tree t tree).0 (forest_of_tree t tree)) complete.replayed).slots_are
 
 pub sorting_laws : SortingLaws
-sorting_laws g t workers shots odd even ps solved history tree sorted rows complete by order = (
+sorting_laws g t workers shots odd even ps solved history tree sorted rows complete by seated order = (
   rows_right g odd shots solved sorted.each solved_rows,
   close (history_of t tree workers (length (rows_by odd solved)) odd history enough
-      (subst (λ m. IsComplete (kids_in t.units t.joins) (node_count t) (m * node_count t) history) as_many complete) by order),
+      (subst (λ m. IsComplete (kids_in t.units t.joins) (node_count t) (m * node_count t) history) as_many complete) by
+      (seat_count workers (length even * t.units)) seated order),
 )
   where
     solved_rows : AreRows g (even_of odd shots) solved
@@ -336,6 +338,7 @@ sorting_laws g t workers shots odd even ps solved history tree sorted rows compl
         (with_places (even_places 0 odd) history)
         × All (λ e. is_in (even_places 0 odd) e.slot ≡ true) (with_places (even_places 0 odd) history)
         × All (λ e. e.worker ≤ workers) (with_places (even_places 0 odd) history)
+        × All (λ e. e.worker < seat_count workers (length even * t.units)) (with_places (even_places 0 odd) history)
         × IsByItem (node_count t) (with_places (even_places 0 odd) history)
         → IsHistoryOf t workers (rows_by odd solved) (with_places ps history)
     close made = subst (λ qs. IsHistoryOf t workers (rows_by odd solved) (with_places qs history)) (sym sorted.places_are) (record {
@@ -343,5 +346,7 @@ sorting_laws g t workers shots odd even ps solved history tree sorted rows compl
           (with_places (even_places 0 odd) history)) same_places made.0;
       within = subst (λ on. All (λ e. is_in on e.slot ≡ true) (with_places (even_places 0 odd) history)) same_places made.1;
       by = made.2;
-      order = made.3;
+      seats = subst (λ (m : ℕ). All (λ e. e.worker < seat_count workers (m * t.units)) (with_places (even_places 0 odd) history))
+          (as_many ∙ ap length same_places) made.3;
+      order = made.4;
     })

@@ -1,11 +1,15 @@
 -- What a window made for a job comes to.
-use Rattle.std.proofs.Common.{ℕ, ◌≡◌, ◌≤◌, List, All, arith, subst}
+use Rattle.std.proofs.Common.{ℕ, ◌≡◌, ◌*◌, ◌<◌, ◌≤◌, List, length, get_or, All, arith, subst, sym}
 use Rattle.std.specs.Prelude.{Result, Ok, Err, IfOk, MatchResult}
 use Rattle.fb_graph.specs.Limits.{ShotValue}
 use Rattle.fb_plan.specs.Plans.{JobValue}
 use Rattle.fb_book.specs.declared.entries.Entry.{Entry}
 use Rattle.fb_crew.specs.declared.window.Window.{Window}
-use Rattle.fb_crew.specs.Windows.{AreRows, IsHistoryOf}
+use Rattle.std.proofs.lemmas.List.Elements.{All-map}
+use Rattle.fb_book.specs.Laws.{renumbered_entry}
+use Rattle.fb_hands.specs.Gates.{HasPassed}
+use Rattle.fb_crew.specs.InternalWindows.{with_places}
+use Rattle.fb_crew.specs.Windows.{AreRows, IsHistoryOf, seat_count}
 
 -- its rows and its history, once the job is known
 pub window_of : {E : Type 0} (shots : List ShotValue) (workers : ℕ) (j job : JobValue) (r : Result Window E) → j ≡ job
@@ -26,3 +30,22 @@ beside P made value (Err e) is has = tt
 -- worker 0 has the least number
 pub at_most_none : (history : List Entry) → All (λ e. e.worker ≡ 0) history → All (λ e. e.worker ≤ 0) history
 at_most_none history by = λ k d less. omega (arith, by k d less)
+
+-- one worker does everything at a board of one seat
+pub only_one : (units : ℕ) (history : List Entry) → All (λ e. e.worker ≡ 0) history → All (λ e. e.worker < seat_count 0 units) history
+only_one units history by = λ k d less. omega (arith, by k d less)
+
+-- the workers of a run are below the number of its seats
+pub seated : (workers units seats : ℕ) (history : List Entry) → seats ≡ seat_count workers units → All (λ e. e.worker < seats) history
+    → All (λ e. e.worker < seat_count workers units) history
+seated workers units seats history is below = subst (λ (n : ℕ). All (λ e. e.worker < n) history) is below
+
+-- who has passed with the slots of a job has passed with the places of their shots
+pub passed_places : {E : Type 0} (passed : ℕ → ℕ → ℕ → Type 0) (places : List ℕ) (history : List Entry) (r : Result Window E)
+    → All (λ e. e.slot < length places) history
+    → All (HasPassed (λ w s n. s < length places → passed w (get_or places s 0) n)) history
+    → IfOk r (λ w. w.history.items ≡ with_places places history) → IfOk r (λ w. All (HasPassed passed) w.history.items)
+passed_places passed places history (Ok w) fits came is =
+    subst (All (HasPassed passed)) (sym is)
+    (All-map (HasPassed passed) (renumbered_entry (λ s. get_or places s 0)) history (λ k d less gave. came k d less gave (fits k d less)))
+passed_places passed places history (Err e) fits came is = tt

@@ -1,5 +1,5 @@
 -- The rows of a window's shots, and the history of how they were made.
-use Rattle.std.specs.Prelude.{ℕ, ◌≡◌, ◌+◌, ◌*◌, ◌≤◌, Bool, true, false, if◌then◌else◌, List, [], ◌∷◌, length}
+use Rattle.std.specs.Prelude.{ℕ, ◌≡◌, ◌+◌, ◌*◌, ◌<◌, ◌≤◌, min, max, Bool, true, false, if◌then◌else◌, List, [], ◌∷◌, length}
 use Rattle.std.specs.List.{All, AllZip}
 use Rattle.fb_graph.specs.Answers.{IsRight}
 use Rattle.fb_graph.specs.Limits.{DecodingGraph, ShotValue}
@@ -29,6 +29,10 @@ abbrev pub best_places : ℕ → List Row → List ℕ
 best_places k [] = []
 best_places k (r ∷ rs) = if is_best r then k ∷ best_places (k + 1) rs else best_places (k + 1) rs
 
+-- how many of these workers take part at this number of units in all slots: no more than units, and at least one
+abbrev pub seat_count : ℕ → ℕ → ℕ
+seat_count workers units = max 1 (min units workers)
+
 -- A history of how these rows were made by a plan: of each shot that has a correction each node of the plan was taken
 -- and then given, as the board's machine allows it; of other shots there is no entry. It is listed by shot, then node,
 -- and an item's Took before its Gave. Slots are places among the rows.
@@ -36,4 +40,5 @@ pub record IsHistoryOf (t : PlanTree) (workers : ℕ) (rows : List Row) (history
   pub complete : IsCompleteOn (best_places 0 rows) (kids_in t.units t.joins) (node_count t) (length rows * node_count t) history
   pub within : All (λ e. is_in (best_places 0 rows) e.slot ≡ true) history
   pub by : All (λ e. e.worker ≤ workers) history
+  pub seats : All (λ e. e.worker < seat_count workers (length (best_places 0 rows) * t.units)) history
   pub order : IsByItem (node_count t) history

@@ -1,19 +1,22 @@
 //! All items of a job by workers side by side.
 
-ghost use Rattle.std.specs.Prelude.{◌≡◌, ◌+◌, ◌*◌, ◌≤◌, ◌<◌, [], length, max, All, Err, IfNone, IfOk, IfSome, MatchResult, OnOk, OnSome};
+ghost use Rattle.std.specs.Prelude.{◌≡◌, ◌+◌, ◌*◌, ◌≤◌, ◌<◌, [], length, All, Err, IfNone, IfOk, IfSome, MatchResult, OnOk, OnSome};
 ghost use Rattle.fb_book.specs.Books.{AreRootPieces};
 ghost use Rattle.fb_plan.specs.Plans.{node_count};
+ghost use Rattle.fb_hands.specs.Gates.{HasPassed};
 ghost use Rattle.fb_hands.specs.Jobs.{IsCompleteOf};
 ghost use Rattle.fb_slots.specs.Ordered.{IsByItem};
 ghost use Rattle.fb_slots.specs.Seats.{entries_in};
 ghost use Rattle.fb_crew.specs.InternalSeats.{IsEnded, IsNew};
+ghost use Rattle.fb_crew.specs.Windows.{seat_count};
 ghost use denote.Param.Send.{IsSync};
 
 use crate::ends::finish;
+use crate::finished::{Finished, Worked};
 use crate::worker::Worker;
 use fb_book::{Board, Entry, MOST_WORKERS, Piece};
 use fb_graph::NoMemory;
-use fb_hands::{Bench, Gate, Hands, Worked};
+use fb_hands::{Bench, Gate, Hands};
 use fb_plan::Job;
 use fb_slots::{SlotBook, SlotSeat};
 use std::alloc::Global;
@@ -37,7 +40,7 @@ impl<P: Piece, T: Drop, N: Board> Member<P, T, N> {
     ) -> Result<Member<P, T, N>, NoMemory>
         requires hands { H.job bench.now.hands.now ≡ N.job }
         requires new { IsNew board.now self.worker.seat }
-        ensures { IfOk result (λ m. IsEnded board.now m.worker.seat) }
+        ensures { IfOk result (λ m. IsEnded board.now (G.passed bench.now.gate.now) m.worker.seat) }
     {
         self.worker.work(board, bench, &mut self.tools)?;
         Ok(self)
@@ -79,20 +82,20 @@ fn seat_members<P: Piece, T: Drop, N: Board>(
 }
 
 /// Takes members apart that have ended, and puts their tools to the others.
-fn take_apart<P: Piece, T: Drop, N: Board>(
-    alloc: Global,
+fn take_apart<P: Piece, T: Drop, H, G: Gate, N: Board>(
+    bench: &Bench<'_, H, G>,
     board: &SlotBook<P, N>,
     mut members: Vec<Member<P, T, N>>,
     mut tools: Vec<T>,
 ) -> Result<Left<P, T, N>, NoMemory>
-    requires ended { All (λ m. IsEnded board.now m.worker.seat) members.items }
-    ensures ended { IfOk result (λ left. All (IsEnded board.now) left.seats.items) }
+    requires ended { All (λ m. IsEnded board.now (G.passed bench.now.gate.now) m.worker.seat) members.items }
+    ensures ended { IfOk result (λ left. All (IsEnded board.now (G.passed bench.now.gate.now)) left.seats.items) }
     ensures count { IfOk result (λ left. length left.seats.items ≡ length members.items) }
     ensures tools { IfOk result (λ left. length left.tools.items ≡ length tools.items + length members.items) }
 {
     let _board = board;
-    let mut seats = Vec::with_capacity(alloc, members.len())?;
-    let mut entries = Vec::new(alloc);
+    let mut seats = Vec::with_capacity(bench.alloc, members.len())?;
+    let mut entries = Vec::new(bench.alloc);
     while let Some(member) = members.pop() {
         let Member {
             worker,
@@ -131,18 +134,19 @@ fn pop_member<P: Piece, T: Drop, N: Board>(
 }
 
 /// The members with one more, if memory sufficed for all of them.
-fn join_member<P: Piece, T: Drop, N: Board>(
+fn join_member<P: Piece, T: Drop, H, G: Gate, N: Board>(
+    bench: &Bench<'_, H, G>,
     board: &SlotBook<P, N>,
     members: Result<Vec<Member<P, T, N>>, NoMemory>,
     member: Result<Member<P, T, N>, NoMemory>,
 ) -> Result<Vec<Member<P, T, N>>, NoMemory>
-    requires members { IfOk members (λ ms. All (λ m. IsEnded board.now m.worker.seat) ms.items) }
-    requires member { IfOk member (λ m. IsEnded board.now m.worker.seat) }
-    ensures ended { IfOk result (λ ms. All (λ m. IsEnded board.now m.worker.seat) ms.items) }
+    requires members { IfOk members (λ ms. All (λ m. IsEnded board.now (G.passed bench.now.gate.now) m.worker.seat) ms.items) }
+    requires member { IfOk member (λ m. IsEnded board.now (G.passed bench.now.gate.now) m.worker.seat) }
+    ensures ended { IfOk result (λ ms. All (λ m. IsEnded board.now (G.passed bench.now.gate.now) m.worker.seat) ms.items) }
     ensures count { MatchResult members (λ others. IfOk result (λ ms. length ms.items ≡ length others.items + 1))
         (λ e. result ≡ Err e) }
 {
-    let _board = board;
+    let (_bench, _board) = (bench, board);
     let mut members = members?;
     members.push(member?)?;
     Ok(members)
@@ -167,35 +171,34 @@ fn work_each<
 ) -> Result<Vec<Member<P, T, N>>, NoMemory>
     requires hands { H.job bench.now.hands.now ≡ N.job }
     requires new { All (λ m. IsNew board.now m.worker.seat) members.items }
-    ensures ended { IfOk result (λ ms. All (λ m. IsEnded board.now m.worker.seat) ms.items) }
+    ensures ended { IfOk result (λ ms. All (λ m. IsEnded board.now (G.passed bench.now.gate.now) m.worker.seat) ms.items) }
     ensures count { IfOk result (λ ms. length ms.items ≡ length members.items) }
 {
     let Some(member) = pop_member(board, &mut members) else {
         return Ok(members);
     };
     if members.is_empty() {
-        return join_member(board, Ok(members), member.work(board, bench));
+        return join_member(bench, board, Ok(members), member.work(board, bench));
     }
     let last = move || -> Result<Member<P, T, N>, NoMemory>
         requires { (H.job bench.now.hands.now ≡ N.job) × IsNew board.now member.worker.seat }
-        ensures { IfOk result (λ m. IsEnded board.entry.now m.worker.seat) }
+        ensures { IfOk result (λ m. IsEnded board.entry.now (G.passed bench.entry.now.gate.now) m.worker.seat) }
     { member.work(board, bench) };
     let others = move || -> Result<Vec<Member<P, T, N>>, NoMemory>
         requires { IsSync R.row × (H.job bench.now.hands.now ≡ N.job)
             × All (λ m. IsNew board.now m.worker.seat) members.items }
-        ensures { IfOk result (λ ms. All (λ m. IsEnded board.entry.now m.worker.seat) ms.items)
+        ensures { IfOk result (λ ms. All (λ m. IsEnded board.entry.now (G.passed bench.entry.now.gate.now) m.worker.seat)
+            ms.items)
             × IfOk result (λ ms. length ms.items ≡ length members.items) }
     { work_each(rt, board, bench, members) };
     let (member, members) = thread::join(rt, last, others);
-    join_member(board, members, member)
+    join_member(bench, board, members, member)
 }
 
 /// As many workers as there are tools, but no more than the job has units in all its slots, and at least one.
 fn worker_count(job: &Job<'_>, tools: u32) -> u32
     requires { 1 ≤ tools }
-    ensures some { 1 ≤ result }
-    ensures few { result ≤ tools }
-    ensures busy { result ≤ max 1 (length job.now.shots * job.now.plan.units) }
+    ensures { result ≡ seat_count tools (length job.now.shots * job.now.plan.units) }
 {
     let units = job
         .shots()
@@ -224,11 +227,13 @@ fn run_all<
     requires job { N.job ≡ job.now }
     requires workers { N.workers ≡ beside }
     requires tools { beside < length tools.items }
-    ensures roots { IfOk result (λ w. AreRootPieces P.job_of P.slot_of P.node_of P.made_of N.job w.roots.items) }
-    ensures history { IfOk result (λ w. IsCompleteOf N.job w.history.items) }
-    ensures order { IfOk result (λ w. IsByItem (node_count N.job.plan) w.history.items) }
-    ensures workers { IfOk result (λ w. All (λ e. e.worker ≤ N.workers) w.history.items) }
-    ensures made { IfOk result (λ w. w.made ≡ length w.history.items) }
+    ensures roots { IfOk result (λ w. AreRootPieces P.job_of P.slot_of P.node_of P.made_of N.job w.run.roots) }
+    ensures history { IfOk result (λ w. IsCompleteOf N.job w.run.history) }
+    ensures order { IfOk result (λ w. IsByItem (node_count N.job.plan) w.run.history) }
+    ensures seats { IfOk result (λ w. w.run.seats ≡ N.workers + 1) }
+    ensures workers { IfOk result (λ w. All (λ e. e.worker ≤ N.workers) w.run.history) }
+    ensures passed { IfOk result (λ w. All (HasPassed (G.passed bench.now.gate.now)) w.run.history) }
+    ensures made { IfOk result (λ w. w.made ≡ length w.run.history) }
     ensures tools { IfOk result (λ w. length w.tools.items ≡ length tools.items) }
 {
     let (board, seats) = SlotBook::<P, N>::new(bench.alloc, job, beside)?;
@@ -239,14 +244,15 @@ fn run_all<
         tools,
         entries,
         ..
-    } = take_apart(bench.alloc, &board, members, tools)?;
-    let finished = finish(bench.alloc, job, board, seats, entries.as_slice())?;
-    Ok(finished.with_tools(tools))
+    } = take_apart(bench, &board, members, tools)?;
+    let Finished { run, made } = finish(bench, job, board, seats, entries.as_slice())?;
+    Ok(Worked { run, made, tools })
 }
 
 /// Does all items of the job by this number of workers, each on a thread of its own but one, which is on the calling
 /// thread. Nobody waits for another one. A job of fewer units in all its slots has fewer workers. A worker that runs
-/// out of memory leaves its item and ends; the others go on until no unit is left.
+/// out of memory leaves its item and ends; the others go on until no unit is left. Who gave an item by the history has
+/// passed the gate with it.
 pub fn work_all<P: Piece + Send + Sync, T: Send + Drop, H: Hands<P, T>, G: Gate, R: Threads + Sync>(
     rt: &R,
     alloc: Global,
@@ -258,11 +264,14 @@ pub fn work_all<P: Piece + Send + Sync, T: Send + Drop, H: Hands<P, T>, G: Gate,
 ) -> Result<Worked<P, T>, NoMemory>
     requires hands { H.job hands.now ≡ job.now }
     requires workers { (1 ≤ workers) × (workers ≤ MOST_WORKERS) × (length tools.items ≡ workers) }
-    ensures roots { IfOk result (λ w. AreRootPieces P.job_of P.slot_of P.node_of P.made_of job.now w.roots.items) }
-    ensures history { IfOk result (λ w. IsCompleteOf job.now w.history.items) }
-    ensures order { IfOk result (λ w. IsByItem (node_count job.now.plan) w.history.items) }
-    ensures workers { IfOk result (λ w. All (λ e. e.worker ≤ workers) w.history.items) }
-    ensures made { IfOk result (λ w. w.made ≡ length w.history.items) }
+    ensures roots { IfOk result (λ w. AreRootPieces P.job_of P.slot_of P.node_of P.made_of job.now w.run.roots) }
+    ensures history { IfOk result (λ w. IsCompleteOf job.now w.run.history) }
+    ensures order { IfOk result (λ w. IsByItem (node_count job.now.plan) w.run.history) }
+    ensures workers { IfOk result (λ w. All (λ e. e.worker ≤ workers) w.run.history) }
+    ensures seats { IfOk result (λ w. w.run.seats ≡ seat_count workers (length job.now.shots * job.now.plan.units)) }
+    ensures numbers { IfOk result (λ w. All (λ e. e.worker < w.run.seats) w.run.history) }
+    ensures passed { IfOk result (λ w. All (HasPassed (G.passed gate.now)) w.run.history) }
+    ensures made { IfOk result (λ w. w.made ≡ length w.run.history) }
     ensures tools { IfOk result (λ w. length w.tools.items ≡ workers) }
 {
     let bench = Bench { alloc, hands, gate };

@@ -5,6 +5,7 @@
 
 pub mod crew;
 mod ends;
+pub mod finished;
 pub mod here;
 mod placed;
 pub mod solver;
@@ -14,7 +15,9 @@ mod worker;
 
 pub use crew::work_all;
 pub use fb_book::{Entry, Kind};
-pub use fb_hands::{Finished, Gate, Hands, OpenGate, Worked};
+pub use fb_hands::{Gate, Hands, OpenGate};
+pub use fb_slots::Run;
+pub use finished::{Finished, Worked};
 pub use here::work_here;
 pub use solver::{Counts, Solved, Solver, Tools};
 pub use window::{Crew, Window, decode_here, decode_window};

@@ -10,6 +10,11 @@ pub(crate) struct Placed<'a, G> {
 }
 
 impl<'a, G: Gate> Gate for Placed<'a, G> {
+    ghost use Rattle.std.specs.Prelude.{◌<◌, get_or, length};
+
+    ghost passed = { λ g worker slot node. slot < length g.places.now
+        → G.passed g.gate.now worker (get_or g.places.now slot 0) node };
+
     fn before_post(&self, worker: u32, slot: u32, node: u32) {
         if let Some(place) = self.places.get(slot as usize) {
             self.gate.before_post(worker, *place, node);

@@ -1,14 +1,16 @@
 //! The rows of some shots, made side by side.
 
-ghost use Rattle.std.specs.Prelude.{◌≡◌, ◌≤◌, length, ℕ, All, IfOk, IfSome};
+ghost use Rattle.std.specs.Prelude.{◌≡◌, ◌*◌, ◌<◌, ◌≤◌, length, ℕ, All, IfOk, IfSome};
 ghost use Rattle.fb_graph.specs.Limits.{IsShot};
 ghost use Rattle.fb_plan.specs.Plans.{IsPlan, node_count, root_of};
+ghost use Rattle.fb_hands.specs.Gates.{HasPassed};
 ghost use Rattle.fb_hands.specs.Jobs.{IsCompleteOf};
 ghost use Rattle.fb_slots.specs.Ordered.{IsByItem};
-ghost use Rattle.fb_crew.specs.InternalWindows.{AreRowsOf, AreSolvedRoots, IsSorted};
-ghost use Rattle.fb_crew.specs.Windows.{AreRows, IsHistoryOf};
+ghost use Rattle.fb_crew.specs.InternalWindows.{AreRowsOf, AreSolvedRoots, IsSorted, with_places};
+ghost use Rattle.fb_crew.specs.Windows.{AreRows, IsHistoryOf, seat_count};
 
 use crate::crew::work_all;
+use crate::finished::{Finished, Worked};
 use crate::here::work_here;
 use crate::placed::Placed;
 use crate::solver::{Solved, Solver, Tools};
@@ -16,8 +18,9 @@ use crate::sorting::{Sorted, join_rows, renumber, sort_out};
 use fb_book::{Entry, MOST_AT_ONCE, MOST_WORKERS};
 use fb_graph::{Components, Graph, NoMemory, Row, Shot, Whole, components};
 use fb_half::both::both;
-use fb_hands::{Finished, Gate, Worked};
+use fb_hands::Gate;
 use fb_plan::{Job, Plan};
+use fb_slots::Run;
 use std::alloc::Global;
 use std::marker::Model;
 use std::thread::Threads;
@@ -95,6 +98,7 @@ impl<'a> Crew<'a> {
         requires few { length shots.now ≤ MOST_AT_ONCE }
         ensures rows { IfOk result (λ w. AreRows self.old.graph shots.now w.rows.items) }
         ensures history { IfOk result (λ w. IsHistoryOf self.old.plan self.old.workers w.rows.items w.history.items) }
+        ensures passed { IfOk result (λ w. All (HasPassed (G.passed gate.now)) w.history.items) }
         ensures same { self.new ≡ self.old }
     {
         let tools = match self.tools.take() {
@@ -147,31 +151,19 @@ fn solve_window<G: Gate, R: Threads + Sync>(
     requires few { length shots.now ≤ MOST_AT_ONCE }
     ensures rows { IfOk result (λ r. AreRows graph.now shots.now r.0.rows.items) }
     ensures history { IfOk result (λ r. IsHistoryOf plan.now workers r.0.rows.items r.0.history.items) }
+    ensures passed { IfOk result (λ r. All (HasPassed (G.passed gate.now)) r.0.history.items) }
     ensures tools { IfOk result (λ r. length r.1.items ≡ workers) }
     ensures same { parts.new ≡ parts.old }
 {
     let Sorted { odd, even, places } = sort_out(alloc, parts, shots)?;
     let job = Job::new(graph, plan, even);
     let solver = Solver::new(&job);
-    let gate = Placed {
+    let placed = Placed {
         gate,
         places: places.as_slice(),
     };
-    let Worked {
-        roots,
-        history,
-        tools,
-        ..
-    } = work_all(rt, alloc, &job, workers, &solver, &gate, tools)?;
-    let window = join_window(
-        alloc,
-        &job,
-        shots,
-        odd.as_slice(),
-        places.as_slice(),
-        roots,
-        history,
-    );
+    let Worked { run, tools, .. } = work_all(rt, alloc, &job, workers, &solver, &placed, tools)?;
+    let window = join_window(alloc, &job, shots, odd.as_slice(), places.as_slice(), run);
     both(window, tools)
 }
 
@@ -194,6 +186,7 @@ pub fn decode_window<G: Gate, R: Threads + Sync>(
     requires workers { (1 ≤ workers) × (workers ≤ MOST_WORKERS) }
     ensures rows { IfOk result (λ w. AreRows graph.now shots.now w.rows.items) }
     ensures history { IfOk result (λ w. IsHistoryOf plan.now workers w.rows.items w.history.items) }
+    ensures passed { IfOk result (λ w. All (HasPassed (G.passed gate.now)) w.history.items) }
     ensures same { parts.new ≡ parts.old }
 {
     let tools = empty_tools(alloc, workers)?;
@@ -223,37 +216,31 @@ pub fn decode_here(
     let job = Job::new(graph, plan, even);
     let solver = Solver::new(&job);
     let mut tools = Tools::new(alloc);
-    let Finished { roots, history, .. } = work_here(alloc, &job, &solver, &mut tools)?;
-    join_window(
-        alloc,
-        &job,
-        shots,
-        odd.as_slice(),
-        places.as_slice(),
-        roots,
-        history,
-    )
+    let Finished { run, .. } = work_here(alloc, &job, &solver, &mut tools)?;
+    join_window(alloc, &job, shots, odd.as_slice(), places.as_slice(), run)
 }
 
-/// The rows of all shots and how they were made, put together of what a job of those that have a correction came to.
+/// The rows of all shots and how they were made, put together of the run of a job of those that have a correction.
 fn join_window(
     alloc: Global,
     job: &Job<'_>,
     shots: &[Shot],
     odd: &[Option<u32>],
     places: &[u32],
-    roots: Vec<Solved<'_>>,
-    mut history: Vec<Entry>,
+    run: Run<Solved<'_>>,
 ) -> Result<Window, NoMemory>
     requires plan { IsPlan job.now.graph job.now.plan }
     requires sorted { IsSorted job.now.graph shots.now odd.now job.now.shots places.now }
-    requires roots { AreSolvedRoots job.now roots.items }
-    requires history { IsCompleteOf job.now history.items }
-    requires order { IsByItem (node_count job.now.plan) history.items }
-    ensures { (workers : ℕ) → All (λ e. e.worker ≤ workers) history.items → IfOk result (λ w.
+    requires roots { AreSolvedRoots job.now run.roots }
+    requires history { IsCompleteOf job.now run.history }
+    requires order { IsByItem (node_count job.now.plan) run.history }
+    ensures made { (workers : ℕ) → All (λ e. e.worker ≤ workers) run.entry.history
+        → All (λ e. e.worker < seat_count workers (length job.now.shots * job.now.plan.units)) run.entry.history → IfOk result (λ w.
         AreRows job.now.graph shots.now w.rows.items × IsHistoryOf job.now.plan workers w.rows.items w.history.items) }
+    ensures places { IfOk result (λ w. w.history.items ≡ with_places places.now run.entry.history) }
 {
     let _shots = shots;
+    let (roots, mut history) = run.into_parts();
     let solved = rows_of(alloc, roots)?;
     let rows = join_rows(alloc, odd, solved)?;
     renumber(&mut history, places);

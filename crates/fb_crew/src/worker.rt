@@ -1,7 +1,8 @@
 //! A worker at a board: what it claims, solves and posts, and the list of what it did.
 
-ghost use Rattle.std.specs.Prelude.{◌≡◌, ◌+◌, ◌*◌, ◌<◌, List, [], None, Some, length, vec_capacity, OnOk};
+ghost use Rattle.std.specs.Prelude.{◌≡◌, ◌+◌, ◌*◌, ◌<◌, List, [], None, Some, length, vec_capacity, All, OnOk};
 ghost use Rattle.fb_book.specs.Books.{AreOfChildren, IsPieceAt, place_of};
+ghost use Rattle.fb_hands.specs.Gates.{HasPassed};
 ghost use Rattle.fb_slots.specs.Seats.{seat_that_claimed, seat_that_gave, seat_that_left, seat_that_took};
 ghost use Rattle.fb_crew.specs.InternalSeats.{IsEnded};
 
@@ -45,6 +46,7 @@ impl<P: Piece, N: Board> Worker<P, N> {
 
     /// The ticket's item.
     fn item_of(&self, ticket: &Ticket<N>) -> Item
+        ensures worker { result.worker ≡ self.now.seat.worker }
         ensures slot { result.slot ≡ ticket.now.slot }
         ensures node { result.node ≡ ticket.now.node }
     {
@@ -138,6 +140,8 @@ impl<P: Piece, N: Board> Worker<P, N> {
         requires held { self.old.seat.held ≡ Some (ticket.slot, ticket.node) }
         requires unit { ticket.node < N.job.plan.units }
         requires room { length self.old.entries.items < vec_capacity self.old.entries }
+        requires came { All (HasPassed (G.passed bench.now.gate.now)) self.old.seat.entries }
+        ensures came { All (HasPassed (G.passed bench.now.gate.now)) self.new.seat.entries }
         ensures own { self.new.seat.board ≡ self.old.seat.board }
         ensures free { self.new.seat.held ≡ None }
         ensures same { OnOk result ((self.new.seat.ends ≡ self.old.seat.ends)
@@ -176,8 +180,9 @@ impl<P: Piece, N: Board> Worker<P, N> {
         requires own { self.old.seat.board ≡ board.now }
         requires open { self.old.seat.ends ≡ 0 }
         requires free { self.old.seat.held ≡ None }
+        requires new { self.old.seat.entries ≡ [] }
         ensures free { self.new.seat.held ≡ None }
-        ensures ended { OnOk result (IsEnded board.now self.new.seat) }
+        ensures ended { OnOk result (IsEnded board.now (G.passed bench.now.gate.now) self.new.seat) }
     {
         loop {
             self.entries.reserve(2)?;

@@ -7,11 +7,12 @@ ghost use Rattle.fb_book.specs.Books.{AreRootPieces, IsPieceAt, course_of, holds
 ghost use Rattle.fb_hands.specs.Jobs.{IsCompleteOf};
 ghost use Rattle.fb_desk.specs.InternalQuiet.{IsQuiet};
 
+use crate::finished::Finished;
 use crate::items::item_of;
 use fb_book::{Board, Book, Claim, Permit, Piece, complete_history};
 use fb_graph::NoMemory;
 use fb_half::both::both;
-use fb_hands::{Bench, Finished, Gate, Hands, OpenGate};
+use fb_hands::{Bench, Gate, Hands, OpenGate};
 use fb_plan::Job;
 use std::alloc::Global;
 use std::marker::Brand;

@@ -5,11 +5,13 @@
 #![tactic(auto)]
 
 mod desk;
+pub mod finished;
 pub mod here;
 mod items;
 mod locked;
 mod seat;
 pub mod workers;
 
+pub use finished::{Finished, Worked};
 pub use here::work_here;
 pub use workers::work_all;

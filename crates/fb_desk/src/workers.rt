@@ -8,13 +8,14 @@ ghost use Rattle.fb_hands.specs.Jobs.{IsCompleteOf};
 ghost use denote.Param.Send.{IsSync};
 
 use crate::desk::Desk;
+use crate::finished::{Finished, Worked};
 use crate::here::{drain, finish, run_here};
 use crate::locked::Locked;
 use crate::seat::Seat;
 use fb_book::{Board, Book, MOST_WORKERS, Piece};
 use fb_graph::NoMemory;
 use fb_half::both::both;
-use fb_hands::{Bench, Finished, Gate, Hands, Worked};
+use fb_hands::{Bench, Gate, Hands};
 use fb_plan::Job;
 use std::alloc::Global;
 use std::marker::Brand;

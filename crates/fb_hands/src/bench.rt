@@ -1,6 +1,6 @@
 //! The hands of a crew behind its gate.
 
-ghost use Rattle.std.specs.Prelude.{◌≡◌, ◌<◌, length, IfOk};
+ghost use Rattle.std.specs.Prelude.{◌≡◌, ◌<◌, length, IfOk, OnOk};
 ghost use Rattle.fb_book.specs.Books.{AreOfChildren, IsPieceAt, place_of};
 
 use crate::gate::Gate;
@@ -33,8 +33,9 @@ impl<'a, H, G: Gate> Bench<'a, H, G> {
         requires job { H.job self.now.hands.now ≡ N.job }
         requires slot { item.slot < length N.job.shots }
         requires unit { item.node < N.job.plan.units }
-        ensures { IfOk result (IsPieceAt P.job_of P.slot_of P.node_of P.made_of N.job
+        ensures piece { IfOk result (IsPieceAt P.job_of P.slot_of P.node_of P.made_of N.job
             (place_of N.job item.slot item.node)) }
+        ensures passed { OnOk result (G.passed self.now.gate.now item.worker item.slot item.node) }
     {
         let piece = self.hands.unit(self.alloc, tools, item.slot, item.node)?;
         self.gate.before_post(item.worker, item.slot, item.node);
@@ -54,8 +55,9 @@ impl<'a, H, G: Gate> Bench<'a, H, G> {
         requires job { H.job self.now.hands.now ≡ N.job }
         requires slot { item.slot < length N.job.shots }
         requires children { AreOfChildren P.job_of P.slot_of P.node_of P.made_of N.job item.slot item.node left right }
-        ensures { IfOk result (IsPieceAt P.job_of P.slot_of P.node_of P.made_of N.job
+        ensures piece { IfOk result (IsPieceAt P.job_of P.slot_of P.node_of P.made_of N.job
             (place_of N.job item.slot item.node)) }
+        ensures passed { OnOk result (G.passed self.now.gate.now item.worker item.slot item.node) }
     {
         let piece = self
             .hands

@@ -1,16 +1,17 @@
-use Rattle.std.proofs.Common.{sym, subst, arith}
-use Rattle.fb_slots.specs.Listed.{IsWhole}
-use Rattle.fb_slots.specs.Slots.{layout_of}
-use Rattle.fb_crew.proofs.Members.{some_end}
+use Rattle.std.proofs.Common.{arith}
+use Rattle.std.proofs.lemmas.List.Elements.{All-contains}
+use Rattle.fb_slots.specs.Seats.{entries_in}
+use Rattle.fb_hands.specs.Gates.{HasPassed}
+use Rattle.fb_crew.proofs.Members.{all_came, some_end}
 use Rattle.fb_crew.proofs.ends.finish.Goals as goal
 
-pub close-requires-clause-ended : goal.close-requires-clause-ended
-close-requires-clause-ended g c =
-    let all = c.requires.all in some_end c.args.board c.args.seats.items c.requires.ended (omega (arith, all))
+pub finish-requires-clause-ended : goal.finish-requires-clause-ended
+finish-requires-clause-ended g c =
+    let all = c.requires.all in
+    some_end c.args.board (g.G.Gate.passed c.args.bench.now.gate.now) c.args.seats.items c.requires.ended (omega (arith, all))
 
-pub history_of-requires-clause-whole : goal.history_of-requires-clause-whole
-history_of-requires-clause-whole g c =
-    subst (IsWhole (layout_of g.N.Board.job g.N.Board.workers)) (sym c.requires.entries) (c.close.ensures.whole c.in-Roots.roots c.in-Roots.is)
-
-pub returns-clause-roots : goal.returns-clause-roots
-returns-clause-roots g c = c.close.ensures.roots c.in-Roots.roots c.in-Roots.is
+pub returns-clause-passed : goal.returns-clause-passed
+returns-clause-passed g c =
+    let passed = g.G.Gate.passed c.args.bench.now.gate.now in
+    let came = all_came c.args.board passed c.args.seats.items c.requires.ended in
+    λ k d less. All-contains (HasPassed passed) (entries_in c.args.seats.items) _ came (c.in_ok-run.ensures.own k d less)

@@ -1,7 +1,7 @@
 use Rattle.std.proofs.Common.{All, sym, subst}
 use Rattle.fb_graph.specs.Limits.{DecodingGraph, IsShot}
 use Rattle.fb_crew.specs.InternalWindows.{IsSorted}
-use Rattle.fb_crew.proofs.Joined.{at_most_none, window_of}
+use Rattle.fb_crew.proofs.Joined.{at_most_none, only_one, window_of}
 use Rattle.fb_crew.proofs.Rooted.{even_of_even, even_of_few, even_of_shots}
 use Rattle.fb_crew.proofs.window.decode_here.Goals as goal
 use Rattle.fb_crew.proofs.window.decode_here.Goals.{In_ok-odd}
@@ -28,9 +28,11 @@ new-job-requires-clause-even c = even_of_even c.args.graph.now c.args.plan.now c
 pub returns-clause-rows : goal.returns-clause-rows
 returns-clause-rows c =
     (window_of c.args.shots.now 0 c.new-job.result _ c.join_window.result c.new-job.ensures
-    (c.join_window.ensures 0 (at_most_none c.in_ok-roots.field-0.history.items c.in_ok-roots.ensures.workers))).0
+    (c.join_window.ensures.made 0 (at_most_none c.in_ok-run.field-0.run.history c.in_ok-run.ensures.workers)
+    (only_one _ c.in_ok-run.field-0.run.history c.in_ok-run.ensures.workers))).0
 
 pub returns-clause-history : goal.returns-clause-history
 returns-clause-history c =
     (window_of c.args.shots.now 0 c.new-job.result _ c.join_window.result c.new-job.ensures
-    (c.join_window.ensures 0 (at_most_none c.in_ok-roots.field-0.history.items c.in_ok-roots.ensures.workers))).1
+    (c.join_window.ensures.made 0 (at_most_none c.in_ok-run.field-0.run.history c.in_ok-run.ensures.workers)
+    (only_one _ c.in_ok-run.field-0.run.history c.in_ok-run.ensures.workers))).1

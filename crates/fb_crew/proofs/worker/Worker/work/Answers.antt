@@ -1,5 +1,6 @@
 use Rattle.std.proofs.Common.{◌≡◌, ℕ, ◌+◌, ◌-◌, ◌*◌, ◌<◌, length, ap, ◌∙◌, arith}
 use Rattle.fb_slots.specs.Seats.{SeatValue}
+use Rattle.fb_crew.proofs.Entries.{came_claimed}
 use Rattle.fb_crew.proofs.worker.Worker.work.Goals as goal
 
 pub climb-requires-clause-own : goal.climb-requires-clause-own
@@ -11,6 +12,11 @@ climb-requires-clause-held g c κs within = ap (λ (s : SeatValue). s.held) (c.c
 
 pub climb-requires-clause-unit : goal.climb-requires-clause-unit
 climb-requires-clause-unit g c κs within = (c.claim.ensures.unit c.in-Unit.ticket c.in-Unit.is).0
+
+pub climb-requires-clause-came : goal.climb-requires-clause-came
+climb-requires-clause-came g c κs within =
+    came_claimed (g.G.Gate.passed c.args.bench.now.gate.now) c.in-Unit.ticket.slot c.in-Unit.ticket.node c.loop-self.self.seat
+    c.claim.new.self.seat (c.claim.ensures.unit c.in-Unit.ticket c.in-Unit.is).1 c.loop-self.invariant.came
 
 pub loop-self-smaller : goal.loop-self-smaller
 loop-self-smaller g c =
@@ -29,5 +35,6 @@ loop-self-preserved g c =
     record {
       own = c.climb.ensures.own ∙ (ap (λ (s : SeatValue). s.board) took ∙ c.loop-self.invariant.own);
       unended = c.in_ok-climb.ensures.same.0 ∙ (ap (λ (s : SeatValue). s.ends) took ∙ c.loop-self.invariant.unended);
+      came = c.climb.ensures.came;
       free = c.climb.ensures.free;
     }
