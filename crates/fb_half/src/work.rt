@@ -192,8 +192,10 @@ impl<'a> Work<'a> {
     /// The part of a fusion, made of its children's solved parts (Wu and Zhong 2023): all their cuts, and all their links
     /// but those of matches to vertices that the fusion owns. The nodes of these matches and the shifted defects that the
     /// fusion owns are unmatched: first the left part's nodes, then the right part's, then the defects in rising order. Takes
-    /// time for the right part, for the nodes of the left part that are or were matched to those vertices, for each defect of
-    /// the shot and each vertex that shifts one within the fusion's reach, and for the logarithm of all.
+    /// time for the right part, for the nodes of the left part that are or were matched to those vertices, for its defects
+    /// above the least one of the right part or of the fusion, for each defect of the shot and each vertex that shifts one
+    /// within the fusion's reach, and for the logarithm of all; if the left part has no room, with the first node also for
+    /// each 512 vertices of the graph.
     pub fn merge(
         alloc: Global,
         job: &'a Job<'a>,
