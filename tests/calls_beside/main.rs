@@ -78,6 +78,7 @@ fn main(rt: HostRuntime) -> io::Result<()> {
         ("a history goes by slot, then node", slots::list_by_item(alloc)),
         ("the calling thread does each item once", workers::work_on_the_calling_thread(alloc)),
         ("fused parts keep their layers", parts::keep_their_layers(alloc)),
+        ("merged parts are unmatched at the seam", parts::are_unmatched_at_the_seam(alloc)),
         ("trees grow at once", parts::grow_at_once(alloc)),
         ("due times are first come, first out", queues::are_first_come_first(alloc)),
         ("parts list their defects", parts::list_their_defects(alloc)),

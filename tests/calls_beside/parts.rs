@@ -3,7 +3,7 @@
 use crate::lines::{Line, is_row};
 use crate::stopped::Stopped;
 use fb_crew::{Hands, OpenGate, Solved, Solver, Tools, decode_window, work_all};
-use fb_fuse::fuse;
+use fb_fuse::{freed_count, fuse};
 use fb_graph::{NoMemory, Row, Scope, Shot, Steps, components};
 use fb_half::{Half, Standing, Work};
 use fb_plan::{Job, Join, Plan};
@@ -282,4 +282,26 @@ pub fn have_all_defects_matched<R: Threads + Sync>(rt: &R, alloc: Global) -> Res
         Stopped::unless(worked.made == 40, "how many events the workers count")?;
     }
     Ok(())
+}
+
+/// What each unit's part frees at the seam, and how many nodes are unmatched, how many matches there are and how many nodes,
+/// once the two are put together.
+fn merge_units<'a, L: Ledger>(alloc: Global, job: &'a Job<'a>, blank: Blank) -> Result<[usize; 5], NoMemory> {
+    let mut steps = Steps::<L>::new(blank);
+    let left = solve_unit(alloc, job, 0, 0, &mut steps)?;
+    let right = solve_unit(alloc, job, 0, 1, &mut steps)?;
+    let freed = [freed_count(&left, 2) as usize, freed_count(&right, 2) as usize];
+    let work = Work::merge(alloc, job, 2, left, right)?;
+    Ok([freed[0], freed[1], work.unmatched().len(), work.matches().len(), work.regions().len()])
+}
+
+/// Put together, the right unit's node, which was matched to the seam, and the seam's defect are unmatched, and the left
+/// unit's match stays.
+pub fn are_unmatched_at_the_seam(alloc: Global) -> Result<(), Stopped> {
+    let line = Line::new(alloc, &[2, 4, 2, 6], &[2])?;
+    let mut shots = Vec::new(alloc);
+    shots.push(line.shot(alloc, &[1, 2, 3])?)?;
+    let job = Job::new(&line.graph, &line.plan, shots);
+    let counts = merge_units::<Brand>(alloc, &job, Blank::new(1))?;
+    Stopped::unless(counts == [0, 1, 2, 1, 3], "a part as it is merged")
 }

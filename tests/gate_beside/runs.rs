@@ -98,16 +98,17 @@ fn names_who_came(report: &[u8], problem: &Problem, gate: &Meeting) -> Result<()
     let Ok(text) = str::from_utf8(report) else {
         return Err(Stopped::Differs("the report's encoding"));
     };
-    let mut count = 0;
+    // The lines go by node, so each node is given once.
+    let mut count: u32 = 0;
     for line in text.lines() {
         if !line.starts_with("gave ") {
             continue;
         }
-        count += 1;
         let Some((worker, node)) = gave_of(line) else {
             return Err(Stopped::Differs("a line of the trace"));
         };
-        Stopped::unless(gate.has_noted(worker, node), "who gave a node")?;
+        Stopped::unless(node == u64::from(count) && gate.has_noted(worker, node), "who gave a node")?;
+        count += 1;
     }
     Stopped::unless(count == problem.nodes, "the number of nodes given")?;
     Stopped::unless(gate.has_seen_each_once(), "who came to the gate")
