@@ -57,11 +57,12 @@ pub by_known_ends : (p : Problem) (role_of : ℕ → Role) (nodes : List Node) (
 by_known_ends p role_of nodes k weight x ends l known weighs residue is =
     look_by_ends p role_of nodes k x ends l known (residue_by_ends p nodes k weight x ends known weighs residue) is
 
--- a look that says nothing of an inner edge
+-- a look that says nothing of an inner edge, which is under one node
 pub look_or_one : (p : Problem) (role_of : ℕ → Role) (nodes : List Node) (k : ℕ) (found : Option Look)
     → MatchOption found (is_inner nodes (edge_at p.edges k) ≡ true)
     (λ l. (l ≡ edge_look p role_of nodes k) × (is_inner nodes (edge_at p.edges k) ≡ false))
-    → MatchOption found (AreUnderOne nodes (edge_at p.edges k).first (edge_at p.edges k).second) (λ l. l ≡ edge_look p role_of nodes k)
+    → MatchOption found (AreUnderOne nodes (edge_at p.edges k).first (edge_at p.edges k).second)
+    (λ l. (l ≡ edge_look p role_of nodes k) × (is_inner nodes (edge_at p.edges k) ≡ false))
 look_or_one p role_of nodes k None is =
     same_node (cover_of nodes (edge_at p.edges k).first) (cover_of nodes (edge_at p.edges k).second) is
-look_or_one p role_of nodes k (Some l) is = is.0
+look_or_one p role_of nodes k (Some l) is = is

@@ -94,7 +94,8 @@ pub fn look_between<S: Scope, R: Roles, L: Ledger>(
     requires below { edge < length (S.problem scope.now).edges }
     ensures look { let e = edge_at (S.problem scope.now).edges edge in
         MatchOption result (AreUnderOne regions.now.nodes e.first e.second)
-        (λ look. look ≡ edge_look (S.problem scope.now) (R.role_of roles.now) regions.now.nodes edge) }
+        (λ look. (look ≡ edge_look (S.problem scope.now) (R.role_of roles.now) regions.now.nodes edge)
+        × (is_inner regions.now.nodes e ≡ false)) }
     ensures counted { looks.new ≡ looks.old + 1 }
 {
     look_over(edge, Ends::of(edge, regions), scope, roles, looks)

@@ -1,6 +1,6 @@
 //! A queue of the growths at which edges may become tight, or minus nodes empty.
 
-ghost use Rattle.std.specs.Prelude.{ℕ, ◌≡◌, ◌+◌, ◌<◌, ◌≤◌, ◌==◌, ◌^◌, ◌&&◌, ◌||◌, true, false, [], ◌∷◌, length, get_or, All, IfNone, IfSome, OnErr, OnOk, MatchOption};
+ghost use Rattle.std.specs.Prelude.{ℕ, ◌≡◌, ◌+◌, ◌-◌, ◌<◌, ◌≤◌, ◌==◌, ◌^◌, ◌&&◌, ◌||◌, true, false, [], ◌∷◌, length, get_or, All, IfNone, IfSome, OnErr, OnOk, MatchOption, Some};
 ghost use Rattle.std.specs.BinaryHeap.{heap_capacity, heap_items, heap_len};
 ghost use Rattle.std.specs.List.Sorted.{IsPermutation};
 ghost use Rattle.fb_obstacles.specs.InternalHeap.{IsDueHeap, due_times};
@@ -119,7 +119,8 @@ impl DueTimes {
 
     /// Takes the first out.
     pub fn drop_first(&mut self)
-        ensures { (first : Due) → IsFirst self.old first → KeepsOthers first.number self.old self.new }
+        ensures kept { (first : Due) → IsFirst self.old first → KeepsOthers first.number self.old self.new }
+        ensures fewer { length self.new ≡ length self.old - 1 }
     {
         let Some(Reverse(_first)) = self.heap.pop() else {
             return;
@@ -156,6 +157,7 @@ impl DueTimes {
     pub fn pop_before(&mut self, limit: Option<u64>) -> Option<Due>
         ensures none { IfNone result ((v k : ℕ) → is_due self.old v k ≡ true → MatchOption limit ⊥ (λ most. most ≤ v)) }
         ensures unchanged { IfNone result (self.new ≡ self.old) }
+        ensures before { IfSome result (λ due. (most : ℕ) → limit ≡ Some most → due.growth < most) }
         ensures taken { IfSome result (λ due. (v k : ℕ)
             → is_due self.old v k ≡ (((due.growth == v) && (due.number == k)) || is_due self.new v k)) }
         ensures fewer { IfSome result (λ due. length self.new + 1 ≡ length self.old) }

@@ -49,7 +49,7 @@ returns-in-Blocked-clause-scanned g c = λ names minus.
     (scanned_more _ _ _ names _ c.requires.seen _ _ _ _ _ _ (c.loop-at.invariant.scanned names minus) c.in-Some.ensures.next
     (ap (λ xs. get_or xs c.in-Some.at 0) c.edges.ensures) c.with_look-least.new.watch
     (get_or c.set_bound.new.self.bounds c.in-Some.at 0) c.bound.result c.in-Some-look_between.look c.with_look-least.result
-    c.in-Some-look_between.ensures.look c.bound.ensures c.set_bound.ensures.most
+    c.in-Some-look_between.ensures.look.0 c.bound.ensures c.set_bound.ensures.most
     (c.with_look-least.ensures.same ∙ c.set_bound.ensures.rest) c.with_look-least.ensures.both)
 
 pub loop-at-preserved : goal.loop-at-preserved
@@ -58,13 +58,13 @@ loop-at-preserved g c = record {
       scanned_more _ _ _ names _ c.requires.seen _ _ _ _ _ _ (c.loop-at.invariant.scanned names minus) c.in-Some.ensures.next
       (ap (λ xs. get_or xs c.in-Some.at 0) c.edges.ensures) c.with_look-least.new.watch
       (get_or c.set_bound.new.self.bounds c.in-Some.at 0) c.bound.result c.in-Some-look_between.look c.with_look-least.result
-      c.in-Some-look_between.ensures.look c.bound.ensures c.set_bound.ensures.most
+      c.in-Some-look_between.ensures.look.0 c.bound.ensures c.set_bound.ensures.most
       (c.with_look-least.ensures.same ∙ c.set_bound.ensures.rest) c.with_look-least.ensures.both;
   edges = λ h.
       c.loop-at.invariant.edges
       (both_minus c.loop-at.least c.in-Some-look_between.look c.with_look-least.result c.with_look-least.ensures.both
       (look_not_minus (g.S.Scope.problem c.args.scope.now) (g.R.Roles.role_of c.args.roles.now) c.args.regions.now.nodes
-      (get_or c.edges.result.now c.in-Some.at 0) c.in-Some-look_between.look c.in-Some-look_between.ensures.look) h);
+      (get_or c.edges.result.now c.in-Some.at 0) c.in-Some-look_between.look c.in-Some-look_between.ensures.look.0) h);
   nodes = ap (λ w. w.nodes) (c.with_look-least.ensures.same ∙ c.set_bound.ensures.rest)
       ∙ (c.in-Some.ensures.next.same.nodes ∙ c.loop-at.invariant.nodes);
   never_falls = omega (arith, c.loop-at.invariant.never_falls);
@@ -101,7 +101,7 @@ returns-in-Blocked-clause-edges g c =
     c.loop-at.invariant.edges
     (both_minus c.loop-at.least c.in-Some-look_between.look c.with_look-least.result c.with_look-least.ensures.both
     (look_not_minus (g.S.Scope.problem c.args.scope.now) (g.R.Roles.role_of c.args.roles.now) c.args.regions.now.nodes
-    (get_or c.edges.result.now c.in-Some.at 0) c.in-Some-look_between.look c.in-Some-look_between.ensures.look) h)
+    (get_or c.edges.result.now c.in-Some.at 0) c.in-Some-look_between.look c.in-Some-look_between.ensures.look.0) h)
 
 pub returns-clause-edges : goal.returns-clause-edges
 returns-clause-edges g c = c.loop-at.invariant.edges

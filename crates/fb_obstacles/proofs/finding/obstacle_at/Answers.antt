@@ -15,14 +15,14 @@ returns-in-Blocked-clause-obstacle g c =
     edge_looked (g.S.Scope.problem c.args.scope.now) (g.R.Roles.role_of c.args.roles.now) c.args.regions.now.nodes
     c.args.edge (Blocked c.in-Blocked.obstacle)
     (subst (λ s. IsDual (g.S.Scope.problem s) c.args.regions.now.nodes) c.requires.same c.keeps_dual.ensures)
-    c.requires.roles c.requires.parity c.limits.ensures c.requires.below (sym c.in-Blocked.is ∙ c.in-Some.ensures.look)
+    c.requires.roles c.requires.parity c.limits.ensures c.requires.below (sym c.in-Blocked.is ∙ c.in-Some.ensures.look.0)
 
 pub returns-in-Clear-clause-obstacle : goal.returns-in-Clear-clause-obstacle
 returns-in-Clear-clause-obstacle g c =
     edge_looked (g.S.Scope.problem c.args.scope.now) (g.R.Roles.role_of c.args.roles.now) c.args.regions.now.nodes
     c.args.edge (Clear)
     (subst (λ s. IsDual (g.S.Scope.problem s) c.args.regions.now.nodes) c.requires.same c.keeps_dual.ensures)
-    c.requires.roles c.requires.parity c.limits.ensures c.requires.below (sym c.in-Clear.is ∙ c.in-Some.ensures.look) 1
+    c.requires.roles c.requires.parity c.limits.ensures c.requires.below (sym c.in-Clear.is ∙ c.in-Some.ensures.look.0) 1
 
 pub returns-in-Within-clause-obstacle : goal.returns-in-Within-clause-obstacle
 returns-in-Within-clause-obstacle g c =
@@ -32,7 +32,7 @@ returns-in-Within-clause-obstacle g c =
     (edge_looked (g.S.Scope.problem c.args.scope.now) (g.R.Roles.role_of c.args.roles.now) c.args.regions.now.nodes
     c.args.edge (Within c.in-Within.field-0)
     (subst (λ s. IsDual (g.S.Scope.problem s) c.args.regions.now.nodes) c.requires.same c.keeps_dual.ensures)
-    c.requires.roles c.requires.parity c.limits.ensures c.requires.below (sym c.in-Within.is ∙ c.in-Some.ensures.look))
+    c.requires.roles c.requires.parity c.limits.ensures c.requires.below (sym c.in-Within.is ∙ c.in-Some.ensures.look.0))
 
 pub returns-in_default-clause-obstacle : goal.returns-in_default-clause-obstacle
 returns-in_default-clause-obstacle g c =
@@ -50,4 +50,4 @@ returns-in-Blocked-clause-place g c =
     (cover_at (g.S.Scope.problem c.args.scope.now) (g.R.Roles.role_of c.args.roles.now) c.args.regions.now.nodes
     (edge_at (g.S.Scope.problem c.args.scope.now).edges c.args.edge).second))
     (residue_at (g.S.Scope.problem c.args.scope.now) c.args.regions.now.nodes c.args.edge) c.args.edge c.in-Blocked.obstacle
-    (sym c.in-Some.ensures.look ∙ c.in-Blocked.is)
+    (sym c.in-Some.ensures.look.0 ∙ c.in-Blocked.is)

@@ -8,8 +8,8 @@ invariant_of-self-2 c =
     (heap_len c.pop.new.self) (heap_capacity c.self.inside.heap) (heap_capacity c.pop.new.self) c.in-Some.ensures.permutation
     (λ heap. (c.in-Some.ensures.heap_order heap).0) c.in-Some.ensures.len c.in-Some.ensures.capacity c.self.invariant
 
-pub returns : goal.returns
-returns c =
+pub returns-clause-kept : goal.returns-clause-kept
+returns-clause-kept c =
     rw (← c.self.view_is)
     (λ first is.
     (left_others c.in-Some.field-0 (heap_items c.self.inside.heap) (heap_items c.pop.new.self)

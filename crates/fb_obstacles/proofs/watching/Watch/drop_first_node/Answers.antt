@@ -8,4 +8,4 @@ returns-clause-same c = rw (← c.self.view_is) refl
 pub returns-clause-kept : goal.returns-clause-kept
 returns-clause-kept c =
     rw (← c.self.view_is)
-    (others_kept c.self.inside.nodes c.drop_first.new.self c.self.inside.lowered c.drop_first.ensures)
+    (others_kept c.self.inside.nodes c.drop_first.new.self c.self.inside.lowered c.drop_first.ensures.kept)
