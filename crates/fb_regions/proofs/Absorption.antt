@@ -11,12 +11,12 @@ use Rattle.fb_graph.proofs.Among.{among_live, cover_among}
 use Rattle.fb_links.specs.declared.walk.Step.{Step}
 use Rattle.fb_regions.specs.declared.marks.Mark.{Mark}
 use Rattle.fb_regions.specs.declared.region.Region.{Region}
-use Rattle.fb_regions.specs.InternalNodes.{mark_of, nodes_of, root_from}
+use Rattle.fb_regions.specs.InternalNodes.{mark_of, nodes_of}
 use Rattle.fb_regions.specs.InternalKept.{IsKept}
 use Rattle.fb_regions.specs.Moves.{IsOver, absorbed_over, inner_end, outer_end}
 use Rattle.fb_regions.proofs.Absorbed.{nodes_absorbed, absorbing, fits_absorbed, kept_absorbed, raised, taken}
 use Rattle.fb_regions.proofs.Found.{found, not_found}
-use Rattle.fb_regions.proofs.Readings.{cover_none, cover_some}
+use Rattle.fb_regions.proofs.Readings.{cover_none}
 
 -- what the call asks for
 pub record MayAbsorb (p : Problem) (nodes : List Node) (k : ℕ) (s : Step) : Type 0 where
@@ -48,21 +48,19 @@ module _ (p : Problem) (regions : List Region) (marks : List (Option Mark)) (kep
   no_mark e =
       false≢true (subst IsSome (ap (cover_of (nodes_of marks regions)) (sym may.over.from) ∙ cover_none p regions marks kept s.from e) may.inner)
 
-  pub no_root : (m : Mark) → mark_of marks s.from ≡ Some m → root_from regions m.leaf ≡ None → ⊥
-  no_root m has e =
-      false≢true (subst IsSome (ap (cover_of (nodes_of marks regions)) (sym may.over.from) ∙ (sym (cover_some p regions marks kept s.from m has) ∙ e)) may.inner)
+  pub no_node : cover_of (nodes_of marks regions) s.from ≡ None → ⊥
+  no_node e = false≢true (subst IsSome (ap (cover_of (nodes_of marks regions)) (sym may.over.from) ∙ e) may.inner)
 
-  pub no_region : (m : Mark) (name : ℕ) → mark_of marks s.from ≡ Some m → root_from regions m.leaf ≡ Some name
-      → position (λ r. r.name == name) regions ≡ None → ⊥
-  no_region m name has root e =
-      let over = cover_among (nodes_of marks regions) s.from name (sym (cover_some p regions marks kept s.from m has) ∙ root) in
+  pub no_region : (name : ℕ) → cover_of (nodes_of marks regions) s.from ≡ Some name → position (λ r. r.name == name) regions ≡ None → ⊥
+  no_region name cover e =
+      let over = cover_among (nodes_of marks regions) s.from name cover in
       both_ways (is_live (nodes_of marks regions) name) (not_found marks regions name e)
       (among_live (nodes_of marks regions) over.node name over.among over.named)
 
-  pub absorption : IsWithinLimits p → (m : Mark) (name i : ℕ) (old : Region) → mark_of marks s.from ≡ Some m → root_from regions m.leaf ≡ Some name
+  pub absorption : IsWithinLimits p → (m : Mark) (name i : ℕ) (old : Region) → mark_of marks s.from ≡ Some m → cover_of (nodes_of marks regions) s.from ≡ Some name
       → position (λ r. r.name == name) regions ≡ Some i → old ≡ get_or regions i old → IsAbsorption p regions marks k i s m old
-  absorption limits m name i old has root at is_old =
-      let is = absorbing p (nodes_of marks regions) k name s may.below may.tight may.outer may.real may.over (sym (cover_some p regions marks kept s.from m has) ∙ root) in
+  absorption limits m name i old has cover at is_old =
+      let is = absorbing p (nodes_of marks regions) k name s may.below may.tight may.outer may.real may.over cover in
       let fits = fits_absorbed p regions marks kept limits name i k s m old is.step has at is_old is.may is.weight in
       record {
         kept = kept_absorbed p regions marks kept limits name i k s m old is.step has at is_old is.may is.weight;

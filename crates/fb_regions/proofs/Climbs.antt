@@ -1,5 +1,5 @@
 -- From a node to the one that joins it, and on to the outer node.
-use Rattle.std.proofs.Common.{ℕ, suc, ◌≡◌, ◌+◌, ◌<◌, ◌≤◌, ◌==◌, Bool, true, false, List, [], ◌∷◌, get_or, Option, Some, None, refl, sym, ap, ◌∙◌, subst, arith, add-zero, if◌then◌else◌, length, ◌-◌}
+use Rattle.std.proofs.Common.{ℕ, suc, ◌≡◌, ◌+◌, ◌<◌, ◌==◌, Bool, true, false, List, [], ◌∷◌, get_or, Option, Some, None, refl, sym, ap, ◌∙◌, subst, arith, add-zero, if◌then◌else◌, length, ◌-◌}
 use Rattle.std.specs.List.{position_or_len}
 use Rattle.std.specs.Prelude.{option_map}
 use Rattle.fb_graph.specs.Parity.{is_in}
@@ -111,34 +111,6 @@ stepped_out (x ∷ xs) name i r at is parent = by (x.name == name) refl (λ j. s
         let up = rest n.before n.at (is ∙ ap (λ j. get_or (x ∷ xs) j r) n.is) parent in
         (root_past x xs name e ∙ up.0, radii_past x xs name e ∙ up.1)
 
--- a name that no node has
-pub not_stepped : (rs : List Region) (name : ℕ) → placed name rs ≡ None → (root_from rs name ≡ None) × (radii_from rs name ≡ 0)
-not_stepped [] name out = (refl, refl)
-not_stepped (x ∷ xs) name out = by (x.name == name) refl (not_stepped xs name)
-  where
-    by : (b : Bool) → (x.name == name) ≡ b → (placed name xs ≡ None → (root_from xs name ≡ None) × (radii_from xs name ≡ 0))
-        → (root_from (x ∷ xs) name ≡ None) × (radii_from (x ∷ xs) name ≡ 0)
-    by true e rest = absurd (let clash : Some 0 ≡ None = sym (placed_here x xs name e) ∙ out in cc)
-    by false e rest =
-        let up = rest (no_next (placed name xs) (sym (placed_past x xs name e) ∙ out)) in
-        (root_past x xs name e ∙ up.0, radii_past x xs name e ∙ up.1)
-
--- a node's radius is a part of the sum
-pub radius_within : (rs : List Region) (name i : ℕ) (r : Region) → placed name rs ≡ Some i → r ≡ get_or rs i r → r.radius ≤ radii_from rs name
-radius_within [] name i r at is = absurd (let clash : None ≡ Some i = at in cc)
-radius_within (x ∷ xs) name i r at is = by (x.name == name) refl (λ j. radius_within xs name j r)
-  where
-    by : (b : Bool) → (x.name == name) ≡ b → ((j : ℕ) → placed name xs ≡ Some j → r ≡ get_or xs j r → r.radius ≤ radii_from xs name)
-        → r.radius ≤ radii_from (x ∷ xs) name
-    by true e rest =
-        let zeros : Some 0 ≡ Some i = sym (placed_here x xs name e) ∙ at in
-        let none : i ≡ 0 = cc in
-        let same : r ≡ x = is ∙ ap (λ j. get_or (x ∷ xs) j r) none in
-        omega (arith, radii_here x xs name e, ap (λ y. y.radius) same)
-    by false e rest =
-        let n = next (placed name xs) i (sym (placed_past x xs name e) ∙ at) in
-        omega (arith, rest n.before n.at (is ∙ ap (λ j. get_or (x ∷ xs) j r) n.is), radii_past x xs name e)
-
 -- where the climb from a node ends, and the radii on the way
 abbrev pub climb_in : List Region → ℕ → Option Climb
 climb_in rs leaf = option_map (λ root. record { root = root; radii = radii_from rs leaf }) (root_from rs leaf)
@@ -147,22 +119,12 @@ pub climb_ended : (rs : List Region) (leaf name radii : ℕ) → root_from rs le
     → Some (record { root = name; radii = radii }) ≡ climb_in rs leaf
 climb_ended rs leaf name radii root sum = rw (root, sum) refl
 
-pub no_climb : (rs : List Region) (leaf : ℕ) → root_from rs leaf ≡ None → None ≡ climb_in rs leaf
-no_climb rs leaf root = rw root refl
-
-pub no_root : (rs : List Region) (leaf : ℕ) → None ≡ climb_in rs leaf → root_from rs leaf ≡ None
-no_root rs leaf e = by (root_from rs leaf) refl
-  where
-    by : (o : Option ℕ) → root_from rs leaf ≡ o → o ≡ None
-    by None f = refl
-    by (Some name) f = absurd (let clash : None ≡ Some (record { root = name; radii = radii_from rs leaf }) = e ∙ sym (climb_ended rs leaf name (radii_from rs leaf) f refl) in cc)
-
 -- a climb that ends gives the outer node's name and the radii
 pub climb_read : (rs : List Region) (leaf : ℕ) (c : Climb) → Some c ≡ climb_in rs leaf → (root_from rs leaf ≡ Some c.root) × (c.radii ≡ radii_from rs leaf)
 climb_read rs leaf c e = by (root_from rs leaf) refl
   where
     by : (o : Option ℕ) → root_from rs leaf ≡ o → (root_from rs leaf ≡ Some c.root) × (c.radii ≡ radii_from rs leaf)
-    by None f = absurd (let clash : Some c ≡ None = e ∙ sym (no_climb rs leaf f) in cc)
+    by None f = absurd (let clash : Some c ≡ None = e ∙ sym (let none : None ≡ climb_in rs leaf = rw f refl in none) in cc)
     by (Some name) f =
         let same : Some c ≡ Some (record { root = name; radii = radii_from rs leaf }) = e ∙ sym (climb_ended rs leaf name (radii_from rs leaf) f refl) in
         let is : c ≡ record { root = name; radii = radii_from rs leaf } = cc in

@@ -7,16 +7,20 @@ use Rattle.fb_regions.specs.declared.marks.Mark.{Mark}
 use Rattle.fb_regions.specs.declared.region.Region.{Region}
 use Rattle.fb_regions.specs.declared.roles.Role.{Role}
 use Rattle.fb_regions.specs.InternalClock.{HaveBegun, all_at, names_paced, now_at}
+use Rattle.fb_regions.specs.InternalHeads.{HaveHeads}
 use Rattle.fb_regions.specs.InternalKept.{IsKept}
-use Rattle.fb_regions.specs.InternalNodes.{nodes_of, root_from}
+use Rattle.fb_regions.specs.InternalListings.{region_named}
+use Rattle.fb_regions.specs.InternalNodes.{nodes_of}
 use Rattle.fb_regions.specs.InternalPlaces.{IsIndex, place_in}
 use Rattle.fb_regions.specs.Paces.{Paced, grows, shrinks}
 use Rattle.fb_regions.proofs.ByName.{first_placed}
 use Rattle.fb_regions.proofs.ClockFound.{Fits, among_placed, fits_at}
 use Rattle.fb_regions.proofs.ClockLists.{paced_same}
 use Rattle.fb_regions.proofs.ClockMoves.{all_settled, begun_settled, paced_set}
-use Rattle.fb_regions.proofs.ClockReadings.{index_at, read_at_time, root_at}
-use Rattle.fb_regions.proofs.Found.{read_place, read_root}
+use Rattle.fb_regions.proofs.ClockReadings.{index_at, read_at_time}
+use Rattle.fb_regions.proofs.Found.{read_place}
+use Rattle.fb_regions.proofs.HeadLists.{heads_set}
+use Rattle.fb_regions.proofs.HeadMoves.{IsAlike}
 use Rattle.fb_regions.proofs.Indexed.{index_changed}
 
 -- the region at the place of a name, written down at this time
@@ -31,10 +35,6 @@ pub record IsSettled (clock : ℕ) (regions : List Region) (places : List (Optio
 pub read_place_at : (clock : ℕ) (regions : List Region) (places seen : List (Option ℕ)) (name : ℕ) (o : Option ℕ) → IsIndex regions places
     → seen ≡ places → o ≡ place_in seen name → position (λ r. r.name == name) (all_at clock regions) ≡ o
 read_place_at clock regions places seen name o index e h = read_place (all_at clock regions) places seen name o (index_at clock regions places index) e h
-
-pub read_root_at : (clock : ℕ) (regions seen : List Region) (name : ℕ) (o : Option ℕ) → seen ≡ regions → o ≡ root_from seen name
-    → root_from (all_at clock regions) name ≡ o
-read_root_at clock regions seen name o e h = root_at clock regions name ∙ read_root regions seen name o e h
 
 pub settled : (clock : ℕ) (regions : List Region) (places seen : List (Option ℕ)) (name i : ℕ) (old new : Region) → IsIndex regions places
     → HaveBegun clock regions → seen ≡ places → Some i ≡ place_in seen name → old ≡ get_or regions i old → new.name ≡ old.name
@@ -60,9 +60,17 @@ small_at p clock regions places seen marks name i old kept index e h at =
 -- what the call that has written a region down leaves
 module _ (clock : ℕ) (regions : List Region) (places : List (Option ℕ)) (name i : ℕ) (old new : Region)
     (is : IsSettled clock regions places name i old new) (marks : List (Option Mark)) where
-  pub kept_settled : (p : Problem) → IsKept p (set (all_at clock regions) i (record new { since = 0 })) marks
+  pub kept_settled : (p : Problem) → IsKept p (set (all_at clock regions) i (record new { since = 0 })) marks → HaveHeads (region_named (all_at clock regions))
+      → IsAlike (now_at clock old) (record new { since = 0 }) → new.name ≡ old.name
       → IsKept p (all_at clock (set regions i new)) marks × IsIndex (set regions i new) places × HaveBegun clock (set regions i new)
-  kept_settled p kept = (subst (λ l. IsKept p l marks) (sym is.regions_are) kept, is.index, is.begun)
+      × HaveHeads (region_named (all_at clock (set regions i new)))
+  kept_settled p kept have alike named = (
+    subst (λ l. IsKept p l marks) (sym is.regions_are) kept,
+    is.index,
+    is.begun,
+    subst (λ l. HaveHeads (region_named l)) (sym is.regions_are)
+        (heads_set (all_at clock regions) i (now_at clock old) (record new { since = 0 }) is.is_old named alike have),
+  )
 
   pub view_settled : {S : Type 0} (scope : S) (nodes : List Node) → nodes_of marks (set (all_at clock regions) i (record new { since = 0 })) ≡ nodes
       → ◌≡◌ {A = Paced S}

@@ -103,7 +103,7 @@ joined_at clock (r ∷ rs) joined = (
 )
 
 -- the lists of named nodes
-named_at_time : (clock : ℕ) (rs : List Region) (name : ℕ) → region_named (all_at clock rs) name ≡ option_map (now_at clock) (region_named rs name)
+pub named_at_time : (clock : ℕ) (rs : List Region) (name : ℕ) → region_named (all_at clock rs) name ≡ option_map (now_at clock) (region_named rs name)
 named_at_time clock [] name = refl
 named_at_time clock (r ∷ rs) name = by (r.name == name) (named_at_time clock rs name)
   where

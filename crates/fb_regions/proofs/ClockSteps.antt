@@ -26,8 +26,9 @@ use Rattle.fb_regions.specs.declared.region.Region.{Region}
 use Rattle.fb_regions.specs.declared.roles.Role.{Role}
 use Rattle.fb_regions.specs.declared.roles.Role.TheVariants.{Plus, Minus, Out}
 use Rattle.fb_regions.specs.InternalClock.{HasBegun, HaveBegun, all_at, moved_by, names_paced, now_at}
+use Rattle.fb_regions.specs.InternalHeads.{HaveHeads}
 use Rattle.fb_regions.specs.InternalKept.{HasMarks, HasParent, HaveParents, IsKept, IsMarked}
-use Rattle.fb_regions.specs.InternalListings.{BeginAlike, BeginsFirst, IsListed}
+use Rattle.fb_regions.specs.InternalListings.{BeginAlike, BeginsFirst, IsListed, region_named}
 use Rattle.fb_regions.specs.InternalNodes.{mark_of, node_of, nodes_of, radii_from, root_from}
 use Rattle.fb_regions.specs.Moves.{BeginsWith}
 use Rattle.fb_regions.specs.InternalPlaces.{IsIndex}
@@ -37,6 +38,7 @@ use Rattle.fb_regions.proofs.ByName.{names, other_name}
 use Rattle.fb_regions.proofs.ClockLists.{paced_same}
 use Rattle.fb_regions.proofs.ClockMoves.{names_apart, paced_head}
 use Rattle.fb_regions.proofs.ClockReadings.{childless_at, children_at, index_at}
+use Rattle.fb_regions.proofs.HeadLists.{heads_map}
 use Rattle.fb_regions.proofs.Listings.{listed_alike}
 use Rattle.fb_regions.proofs.Moved.{came_still}
 use Rattle.fb_regions.proofs.PaceNames.{pace_named, paced_named}
@@ -214,6 +216,17 @@ module _ (p : Problem) (regions : List Region) (marks : List (Option Mark)) (kep
             (λ h. not_alone r q a e (All_among (λ n. roles.is_minus n.name ≡ true → is_outer nodes n.name ≡ true) nodes turn.are.minus (node_of marks r) node (is.minus ∙ h)));
       }
 
+  heads_passed : HaveHeads (region_named regions) → HaveHeads (region_named (all_at k regions))
+  heads_passed have =
+      heads_map (now_at k) regions (λ r. refl)
+      (λ r a.
+      record {
+        still = record { children = refl; head = refl; inside = refl };
+        parent = refl;
+        link = refl;
+        radius = λ q e. (shifted r a).still q e;
+      }) have
+
   marked : (v : ℕ) (m : Mark) → mark_of marks v ≡ Some m → IsMarked p others (all_at k regions) marks v m
   marked v m has =
       let is : IsMarked p nodes regions marks v m = kept.marked v m has in
@@ -296,6 +309,7 @@ pub record IsAdvanced (p : Problem) (regions : List Region) (places : List (Opti
   pub kept : IsKept p (all_at time new) marks
   pub index : IsIndex new places
   pub begun : HaveBegun time new
+  pub heads : HaveHeads (region_named (all_at time new))
   pub nodes : nodes_of marks (all_at time new) ≡ stepped_nodes (roles_by regions) length (nodes_of marks (all_at clock regions))
   pub paced : (test : Role → Bool) → names_paced test new ≡ names_paced test regions
 
@@ -303,7 +317,8 @@ module _ (p : Problem) (regions : List Region) (places : List (Option ℕ)) (mar
     (kept : IsKept p (all_at clock regions) marks) (index : IsIndex regions places) (begun : HaveBegun clock regions) (limits : IsWithinLimits p)
     (are : AreRoles (roles_by regions) (nodes_of marks (all_at clock regions)))
     (crossed : (n : ℕ) → is_in (names_paced grows regions) n ≡ true → IsCrossed p (top_at (nodes_of marks (all_at clock regions)) n))
-    (may : MayStep p (roles_by regions) (nodes_of marks (all_at clock regions)) length) where
+    (may : MayStep p (roles_by regions) (nodes_of marks (all_at clock regions)) length)
+    (have : HaveHeads (region_named (all_at clock regions))) where
   turn_of : IsTurn p (nodes_of marks (all_at clock regions)) (roles_by regions) length
   turn_of = record {
     are = are;
@@ -327,6 +342,9 @@ module _ (p : Problem) (regions : List Region) (places : List (Option ℕ)) (mar
   moved_kept : IsKept p (all_at length (all_at clock regions)) marks
   moved_kept = kept_moved p (all_at clock regions) marks kept limits (roles_by regions) length turn_of fresh_of paced_of
 
+  moved_heads : HaveHeads (region_named (all_at length (all_at clock regions)))
+  moved_heads = heads_passed p (all_at clock regions) marks kept limits (roles_by regions) length turn_of fresh_of paced_of have
+
   pub advanced_on : (time : ℕ) → time ≡ clock + length → IsAdvanced p regions places marks clock length regions time
   advanced_on time e =
       let same : all_at time regions ≡ all_at length (all_at clock regions) = ap (λ t. all_at t regions) e ∙ all_later clock length regions begun in
@@ -334,6 +352,7 @@ module _ (p : Problem) (regions : List Region) (places : List (Option ℕ)) (mar
         kept = subst (λ l. IsKept p l marks) (sym same) moved_kept;
         index = index;
         begun = among_All (HasBegun time) regions (λ r a. let h = All_among (HasBegun clock) regions begun r a in omega (arith, h, e));
+        heads = subst (λ l. HaveHeads (region_named l)) (sym same) moved_heads;
         nodes = ap (nodes_of marks) same ∙ moved_nodes;
         paced = λ test. refl;
       }
@@ -345,6 +364,7 @@ module _ (p : Problem) (regions : List Region) (places : List (Option ℕ)) (mar
         kept = moved_kept;
         index = index_at clock regions places index;
         begun = among_All (HasBegun length) (all_at clock regions) (λ r a. omega (arith, fresh_of r a));
+        heads = moved_heads;
         nodes = moved_nodes;
         paced = λ test. paced_at test clock regions;
       })

@@ -10,7 +10,7 @@ use Rattle.fb_graph.proofs.Among.{IsAmong}
 use Rattle.fb_graph.proofs.Nodes.{change_at-place, layers_at-place, no_place, top_at-place}
 use Rattle.fb_regions.specs.declared.marks.Mark.{Mark}
 use Rattle.fb_regions.specs.declared.region.Region.{Region}
-use Rattle.fb_regions.specs.InternalNodes.{added_to, first_of, node_of, nodes_of, root_from, stack}
+use Rattle.fb_regions.specs.InternalNodes.{added_to, first_of, node_of, nodes_of, stack}
 use Rattle.fb_regions.specs.InternalPlaces.{IsIndex, place_in}
 use Rattle.fb_regions.specs.Moves.{node_named}
 use Rattle.fb_regions.proofs.Chains.{length-chain, length-stack}
@@ -125,9 +125,6 @@ length-layers marks r =
       length-stack marks (first_of marks r) (added_to marks r),
       length-chain marks r.added r.last,
     )
-
-pub read_root : (regions seen : List Region) (name : ℕ) (o : Option ℕ) → seen ≡ regions → o ≡ root_from seen name → root_from regions name ≡ o
-read_root regions seen name o e h = ap (λ l. root_from l name) (sym e) ∙ sym h
 
 -- what a change of each element through a borrow of all leaves in the list
 pub mapped_back : {X : Type 0} (f : X → X) (xs : List X) (n : ℕ) → n ≡ length xs → take n (map f xs ++ drop (length (map f xs)) xs) ≡ map f xs

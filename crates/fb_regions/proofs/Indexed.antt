@@ -2,7 +2,6 @@
 use Rattle.std.proofs.Common.{ℕ, zero, suc, ◌≡◌, ◌+◌, ◌<◌, ◌==◌, ◌||◌, Bool, true, false, List, [], ◌∷◌, ◌++◌, length, map, set, drop, get_or, Option, Some, None, refl, sym, ap, ◌∙◌, subst, arith, add-one, drop-cons, if◌then◌else◌}
 use Rattle.std.specs.List.{All, remove}
 use Rattle.std.proofs.lemmas.Bool.{eqb-true}
-use Rattle.std.proofs.lemmas.List.{length-map}
 use Rattle.fb_graph.specs.Parity.{is_in}
 use Rattle.fb_graph.specs.Certificate.{AreDistinct}
 use Rattle.fb_graph.specs.Dual.{is_live}
@@ -15,7 +14,7 @@ use Rattle.fb_regions.specs.InternalNodes.{reparented_region, nodes_of}
 use Rattle.fb_regions.specs.InternalPlaces.{place_in, AreJoinedAbove, IsIndex, IsIndexBefore, IsJoinedIn}
 use Rattle.fb_regions.specs.InternalKept.{HasParent, HaveParents, IsKept}
 use Rattle.fb_regions.proofs.Found.{found, names_of, read_place}
-use Rattle.fb_regions.proofs.Joined.{adopted_names, same_name}
+use Rattle.fb_regions.proofs.Joined.{same_name}
 use Rattle.fb_regions.proofs.Split.{still_among}
 use Rattle.fb_regions.proofs.ByName.{first_placed, names, not_placed, placed, placed_mapped, placed_own, placed_push, placed_push_own, placed_removed, placed_set, removed_own}
 use Rattle.fb_regions.proofs.RenamedRegions.{joiner_known}
@@ -98,14 +97,6 @@ index_changed rs places seen name i old new index e h at named =
 
 pub fresh_name : (marks : List (Option Mark)) (rs : List Region) (name : ℕ) → is_live (nodes_of marks rs) name ≡ false → is_in (names rs) name ≡ false
 fresh_name marks rs name fresh = ap (λ l. is_in l name) (names_of marks rs) ∙ (names_live (nodes_of marks rs) name ∙ fresh)
-
-pub index_joined : (marks : List (Option Mark)) (rs : List Region) (places wider other : List (Option ℕ)) (children : List ℕ) (o : Option ℕ) (new : Region) (n : ℕ)
-    → IsIndex rs places → ((k : ℕ) → place_in wider k ≡ place_in places k) → n ≡ length rs → is_live (nodes_of marks rs) new.name ≡ false
-    → ((k : ℕ) → place_in other k ≡ (if new.name == k then Some n else place_in wider k)) → IsIndex (map (reparented_region children o) rs ++ new ∷ []) other
-index_joined marks rs places wider other children o new n index same count fresh entries =
-    index_pushed (map (reparented_region children o) rs) wider other new n (index_adopted rs wider children o (index_same rs places wider index same))
-    (count ∙ sym (length-map rs (reparented_region children o)))
-    (ap (λ l. is_in l new.name) (adopted_names children o rs) ∙ fresh_name marks rs new.name fresh) entries
 
 -- what a dual state keeps
 module _ (p : Problem) (regions : List Region) (marks : List (Option Mark)) (kept : IsKept p regions marks) where

@@ -25,7 +25,7 @@ use Rattle.fb_regions.specs.declared.region.Region.{Region}
 use Rattle.fb_regions.specs.Holders.{IsHolder}
 use Rattle.fb_regions.specs.InternalNodes.{added_to, first_of, mark_of, node_of, nodes_of, radii_from, root_from}
 use Rattle.fb_regions.specs.InternalKept.{IsKept}
-use Rattle.fb_regions.proofs.Climbs.{climb_in, climb_read, no_root}
+use Rattle.fb_regions.proofs.Climbs.{climb_in, climb_read}
 use Rattle.fb_regions.proofs.Moved.{mark_over, same_cover}
 use Rattle.fb_regions.proofs.Roots.{root_covers}
 
@@ -113,11 +113,6 @@ module _ (p : Problem) (regions : List Region) (marks : List (Option Mark)) (kep
       let read = climb_read regions m.leaf c climb in
       let sum = potential v c.radii m at read.1 in
       (sum.0, record { node = sym read.0 ∙ cover_some v m at; potential = sum.1 })
-
-  pub without_climb : (v : ℕ) (m : Mark) → mark_of marks v ≡ Some m → None ≡ climb_in regions m.leaf → IsHolder (nodes_of marks regions) v None
-  without_climb v m at climb =
-      let out : cover_of (nodes_of marks regions) v ≡ None = sym (cover_some v m at) ∙ no_root regions m.leaf climb in
-      record { node = sym out; potential = sym (kept.nest.dual.uncovered v out) }
 
 -- the residue, read from two potentials
 pub residue : (r w a b s t : ℕ) (cuts : List Cut) (e : Edge) → r ≡ w - (a + b) → w ≡ e.weight → a ≡ height_of cuts s → s ≡ e.first → b ≡ height_of cuts t

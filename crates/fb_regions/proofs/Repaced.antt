@@ -15,8 +15,9 @@ use Rattle.fb_regions.specs.declared.region.Region.{Region}
 use Rattle.fb_regions.specs.declared.roles.Role.{Role}
 use Rattle.fb_regions.specs.declared.roles.Role.TheVariants.{Out}
 use Rattle.fb_regions.specs.InternalClock.{HaveBegun, all_at, now_at}
+use Rattle.fb_regions.specs.InternalHeads.{HaveHeads}
 use Rattle.fb_regions.specs.InternalKept.{HasMarks, HaveParents, IsKept, IsMarked}
-use Rattle.fb_regions.specs.InternalListings.{BeginAlike, BeginsFirst, IsListed}
+use Rattle.fb_regions.specs.InternalListings.{BeginAlike, BeginsFirst, IsListed, region_named}
 use Rattle.fb_regions.specs.InternalNodes.{node_of, nodes_of, radii_from}
 use Rattle.fb_regions.specs.InternalPlaces.{IsIndex, place_in}
 use Rattle.fb_regions.specs.Paces.{Paced}
@@ -24,6 +25,7 @@ use Rattle.fb_regions.proofs.ByName.{first_placed, placed, placed_known}
 use Rattle.fb_regions.proofs.ClockMoves.{all_settled, begun_settled, names_apart}
 use Rattle.fb_regions.proofs.ClockReadings.{length_at, names_at, placed_at, read_at_time}
 use Rattle.fb_regions.proofs.Found.{among_at, found, names_of, not_found, read_place}
+use Rattle.fb_regions.proofs.HeadLists.{heads_set}
 use Rattle.fb_regions.proofs.Indexed.{index_changed}
 use Rattle.fb_regions.proofs.Listings.{listed_alike}
 use Rattle.fb_regions.proofs.PaceNames.{pace_by, pace_found, pace_missing, pace_read, pace_set}
@@ -133,23 +135,27 @@ module _ (p : Problem) (clock : ℕ) (rs : List Region) (places seen : List (Opt
   pub nodes_at_time : nodes_of marks (all_at clock (set rs i repaced_at)) ≡ nodes_of marks (all_at clock rs)
   nodes_at_time = ap (nodes_of marks) regions_are ∙ nodes_repaced marks (all_at clock rs) i (now_at clock old) pace there
 
-  pub kept_at_time : IsKept p (all_at clock rs) marks → HaveBegun clock rs
+  pub kept_at_time : IsKept p (all_at clock rs) marks → HaveBegun clock rs → HaveHeads (region_named (all_at clock rs))
       → IsKept p (all_at clock (set rs i repaced_at)) marks × IsIndex (set rs i repaced_at) places × HaveBegun clock (set rs i repaced_at)
-  kept_at_time kept begun = (
+      × HaveHeads (region_named (all_at clock (set rs i repaced_at)))
+  kept_at_time kept begun have = (
     subst (λ l. IsKept p l marks) (sym regions_are)
         (kept_repaced p (all_at clock rs) marks i (now_at clock old) pace there (omega (arith, less, length_at clock rs)) kept),
     index_changed rs places seen name i old repaced_at index e h at refl,
     begun_settled clock rs i repaced_at refl begun,
+    subst (λ l. HaveHeads (region_named l)) (sym regions_are)
+        (heads_set (all_at clock rs) i (now_at clock old) (record (now_at clock old) { pace = pace }) there refl
+        (record { still = record { children = refl; head = refl; inside = refl }; parent = refl; link = refl; radius = λ q f. refl }) have),
   )
 
-  pub paces_at_time : IsKept p (all_at clock rs) marks → HaveBegun clock rs → (n : ℕ)
+  pub paces_at_time : IsKept p (all_at clock rs) marks → HaveBegun clock rs → HaveHeads (region_named (all_at clock rs)) → (n : ℕ)
       → pace_by (set rs i repaced_at) n ≡ (if (n == name) && is_live (nodes_of marks (all_at clock rs)) name then pace else pace_by rs n)
-  paces_at_time kept begun n =
+  paces_at_time kept begun have n =
       let there' : placed name rs ≡ Some i = read_place rs places seen name (Some i) index e h in
       let named : old.name ≡ name = (found marks rs name i old there' at).named in
       let live : is_live (nodes_of marks (all_at clock rs)) name ≡ true =
       sym (ap (λ l. is_in l name) (sym (names_at clock rs) ∙ names_of marks (all_at clock rs)) ∙ names_live (nodes_of marks (all_at clock rs)) name) ∙ placed_known rs name i there' in
-      pace_read (set rs i repaced_at) n (names_apart p clock (set rs i repaced_at) marks (kept_at_time kept begun).0)
+      pace_read (set rs i repaced_at) n (names_apart p clock (set rs i repaced_at) marks (kept_at_time kept begun have).0)
       ∙ (pace_set rs name i repaced_at there' named n
       ∙ (ap (λ r. if n == name then pace else r) (sym (pace_read rs n (names_apart p clock rs marks kept)))
       ∙ (by (n == name) ∙ ap (λ b. if (n == name) && b then pace else pace_by rs n) (sym live))))

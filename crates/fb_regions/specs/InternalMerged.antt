@@ -2,18 +2,30 @@
 use Rattle.std.specs.Prelude.{ℕ, ◌≡◌, ◌==◌, List, length, map, option_map, Option, Some, None, if◌then◌else◌}
 use Rattle.std.specs.Vec.{with_items}
 use Rattle.fb_graph.specs.Parity.{is_in}
+use Rattle.fb_regions.specs.declared.heads.Beside.{Beside}
+use Rattle.fb_regions.specs.declared.heads.Link.{Link}
 use Rattle.fb_regions.specs.declared.marks.Mark.{Mark}
 use Rattle.fb_regions.specs.declared.region.Region.{Region}
 use Rattle.fb_regions.specs.InternalNodes.{mark_of}
 use Rattle.fb_regions.specs.InternalPlaces.{place_in}
 
--- the region under its new name, with the new names of its children and of the node round it, as one whose pace began at 0
+-- the link with the new names of the nodes
+abbrev pub renamed_beside : (ℕ → ℕ) → Option Beside → Option Beside
+renamed_beside f o = option_map (λ (b : Beside). record b { leaf = f b.leaf }) o
+
+abbrev pub renamed_link : (ℕ → ℕ) → Link → Link
+renamed_link f link = record { top = f link.top; beside = renamed_beside f link.beside }
+
+-- the region under its new name, with the new names of its children, of the node round it, of its head and of those to
+-- which it leads, as one whose pace began at 0
 abbrev pub renamed_region : (ℕ → ℕ) → Region → Region
 renamed_region f r =
     record r {
       name = f r.name;
       children = with_items r.children (map f r.children.items);
       parent = option_map f r.parent;
+      head = f r.head;
+      link = renamed_link f r.link;
       since = 0;
     }
 

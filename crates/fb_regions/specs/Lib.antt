@@ -1,6 +1,7 @@
 pub mod Holders
 pub mod InternalClock
 pub mod InternalCodes
+pub mod InternalHeads
 pub mod InternalKept
 pub mod InternalListings
 pub mod InternalMerged

@@ -3,6 +3,7 @@
 #![tactic(auto)]
 
 mod clock;
+mod heads;
 mod listing;
 mod marks;
 mod merging;

@@ -1,10 +1,11 @@
 ghost use Rattle.std.specs.Prelude.{◌≡◌, ◌≤◌, ◌++◌, ◌∷◌, ℕ, [], length, map, IfOk, OnOk};
 ghost use Rattle.fb_graph.specs.Certificate.{AreDistinct};
 ghost use Rattle.fb_links.specs.Names.{name_by};
-ghost use Rattle.fb_regions.specs.InternalMerged.{AreMarksOver, IsEntered, renamed_region, renamed_regions};
+ghost use Rattle.fb_regions.specs.InternalMerged.{AreMarksOver, IsEntered, renamed_link, renamed_region, renamed_regions};
 ghost use Rattle.fb_regions.specs.InternalPlaces.{IsIndex};
 
 use crate::NodeId;
+use crate::heads::{Beside, Link};
 use crate::marks::{Mark, Marks};
 use crate::places::{enter, make_room};
 use crate::region::Region;
@@ -48,11 +49,27 @@ fn take_node(
 {
     region.name = names.of(region.name);
     region.parent = names.of_option(region.parent);
+    region.head = names.of(region.head);
+    region.link = renamed_link(region.link, names);
     region.since = 0;
     rename_all(&mut region.children, names);
     make_room(regions, places, region.name)?;
     enter(regions, places, region);
     Ok(())
+}
+
+/// The link with the new names of the nodes.
+fn renamed_link(link: Link, names: &Names) -> Link
+    ensures { result ≡ renamed_link (name_by names.now) link }
+{
+    let beside = link.beside.map(|beside| Beside {
+        leaf: names.of(beside.leaf),
+        ..beside
+    });
+    Link {
+        top: names.of(link.top),
+        beside,
+    }
 }
 
 /// Gives each node of a list its new name.

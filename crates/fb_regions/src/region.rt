@@ -1,12 +1,15 @@
-ghost use Rattle.std.specs.Prelude.{◌≡◌, ◌+◌, ◌<◌, ◌^◌, [], ◌∷◌, ◌++◌, map, filter, IfOk, OnOk, Option, option_map, ◌==◌};
+ghost use Rattle.std.specs.Prelude.{◌≡◌, ◌+◌, ◌<◌, ◌^◌, [], ◌∷◌, ◌++◌, map, filter, IfOk, OnOk, Option, option_map, Some, true};
 ghost use Rattle.fb_graph.specs.Dual.{layers_of};
 ghost use Rattle.fb_graph.specs.Printed.{is_positive};
 ghost use Rattle.fb_graph.specs.Certificate.{AreDistinct, total_value};
 ghost use Rattle.fb_regions.specs.InternalClock.{HasBegun, HaveBegun, all_at, now_at};
+ghost use Rattle.fb_regions.specs.InternalHeads.{HaveHeads, is_leaf_in};
+ghost use Rattle.fb_regions.specs.InternalListings.{region_named};
 ghost use Rattle.fb_regions.specs.InternalNodes.{reparented_region, chain, node_of, radii_from, root_from, stack};
 ghost use Rattle.fb_regions.specs.InternalPlaces.{AreJoinedAbove, IsIndex};
 
 use crate::clock::{radius_at, top_at};
+use crate::heads::{Link, depth, region_of};
 use crate::marks::Marks;
 use crate::places::place_of;
 use crate::{NodeId, Role};
@@ -22,6 +25,14 @@ pub struct Region {
     pub children: Vec<NodeId>,
     /// The name of the node that joins it.
     pub parent: Option<NodeId>,
+    /// The name of one of the leaves under it, its own name if it joins no others.
+    pub head: NodeId,
+    /// The sum of the radii of the nodes that hold the head, up to those that this one joins, modulo 2^64.
+    pub inside: u64,
+    /// The number of leaves under it.
+    pub size: usize,
+    /// If it is a leaf, where it leads; nothing is said of a blossom's.
+    pub link: Link,
     /// The first of its vertices.
     pub first: u32,
     /// The number of vertices of its first layer, and the last of them.
@@ -41,57 +52,38 @@ pub struct Region {
     pub since: u64,
 }
 
-/// The name of the outer node round a node; none if no node has the name. Climbs from each node to the one that
-/// joins it.
-pub fn root_of(places: &[Option<usize>], regions: &[Region], leaf: NodeId) -> Option<NodeId>
-    requires index { IsIndex regions.now places.now }
-    requires joined { AreJoinedAbove regions.now }
-    ensures { result ≡ root_from regions.now leaf }
-{
-    let mut name = leaf;
-    while let Some(place) = place_of(places, name) {
-        let region = &regions[place];
-        let Some(parent) = region.parent else {
-            return Some(name);
-        };
-        name = parent;
-    }
-    None
-}
-
-/// The end of a climb from a node to the outer one round it.
+/// The outer node round a leaf.
 #[derive(Clone, Copy)]
 pub struct Climb {
     /// The name of the outer node.
     pub root: NodeId,
-    /// The sum of the radii of the node and of the nodes round it.
+    /// The sum of the radii of the leaf and of the nodes round it.
     pub radii: u64,
 }
 
-/// Climbs as `root_of` does, and adds up the radii at this time on the way.
-pub fn climb_from(
-    places: &[Option<usize>],
-    regions: &[Region],
-    clock: u64,
-    leaf: NodeId,
-) -> Option<Climb>
+/// The outer node round a leaf, and the sum of the radii at this time on the way to it. Hops from head to head, at most
+/// once for each time that the number of leaves doubles.
+pub fn climb_from(places: &[Option<usize>], regions: &[Region], clock: u64, leaf: NodeId) -> Climb
     requires index { IsIndex regions.now places.now }
     requires joined { AreJoinedAbove regions.now }
     requires begun { HaveBegun clock regions.now }
     requires fits { radii_from (all_at clock regions.now) leaf < 2 ^ 64 }
-    ensures { result ≡ option_map (λ root. record { root = root; radii = radii_from (all_at clock regions.now) leaf }) (root_from regions.now leaf) }
+    requires heads { HaveHeads (region_named (all_at clock regions.now)) }
+    requires leaf { is_leaf_in (region_named regions.now leaf) ≡ true }
+    ensures { Some result ≡ option_map (λ root. record { root = root; radii = radii_from (all_at clock regions.now) leaf }) (root_from regions.now leaf) }
 {
-    let mut name = leaf;
-    let mut radii = 0;
-    while let Some(place) = place_of(places, name) {
-        let region = &regions[place];
-        radii += radius_at(region, clock);
-        let Some(parent) = region.parent else {
-            return Some(Climb { root: name, radii });
-        };
-        name = parent;
+    let mut region = region_of(places, regions, leaf);
+    let mut radii: u64 = 0;
+    while let Some(beside) = region.link.beside {
+        radii = radii.wrapping_add(beside.shift);
+        region = region_of(places, regions, beside.leaf);
     }
-    None
+    let root = region.link.top;
+    let outer = region_of(places, regions, root);
+    Climb {
+        root,
+        radii: radii.wrapping_add(depth(outer, clock)),
+    }
 }
 
 /// Makes a node the parent of these, or none.

@@ -22,11 +22,12 @@ ghost use Rattle.fb_regions.specs.declared.roles.Role.TheVariants.{Out};
 ghost use Rattle.fb_regions.specs.Moves.{BeginsWith, IsOver, IsSourceWalk, absorbed_over, inner_end, node_named, outer_end};
 
 use crate::clock::{settle, settle_all, top_at};
+use crate::heads::{Link, joint_of, rejoin};
 use crate::listing::list_together;
 use crate::marks::{Hop, Mark, Marks};
 use crate::merging::{take_marks, take_nodes};
 use crate::places::{enter, enter_from, make_room, place_of, set_place};
-use crate::region::{self, Region, adopt, climb_from, root_of};
+use crate::region::{self, Region, climb_from};
 use crate::{Layer, NodeId, Role, Roles, Step, Walk};
 use fb_graph::{NoMemory, Scope};
 use std::alloc::Global;
@@ -104,7 +105,9 @@ impl<S: Scope> Model for Regions<S> {
     ghost use Rattle.fb_regions.specs.InternalClock.{HaveBegun, all_at, names_paced};
     ghost use Rattle.fb_regions.specs.InternalCodes.{paced_code};
     ghost use Rattle.fb_regions.specs.Paces.{Paced, grows, shrinks};
+    ghost use Rattle.fb_regions.specs.InternalHeads.{HaveHeads};
     ghost use Rattle.fb_regions.specs.InternalKept.{IsKept};
+    ghost use Rattle.fb_regions.specs.InternalListings.{region_named};
     ghost use Rattle.fb_regions.specs.InternalNodes.{nodes_of};
     ghost use Rattle.fb_regions.specs.InternalPlaces.{IsIndex};
 
@@ -121,7 +124,8 @@ impl<S: Scope> Model for Regions<S> {
 
     ghost invariant = { λ r. IsKept (S.problem r.scope) (all_at r.clock r.regions.items) r.marks
         × IsIndex r.regions.items r.places.items
-        × HaveBegun r.clock r.regions.items };
+        × HaveBegun r.clock r.regions.items
+        × HaveHeads (region_named (all_at r.clock r.regions.items)) };
 }
 
 impl<S: Scope> Regions<S> {
@@ -280,6 +284,13 @@ impl<S: Scope> Regions<S> {
             name: node,
             children: Vec::new(alloc),
             parent: None,
+            head: node,
+            inside: 0,
+            size: 1,
+            link: Link {
+                top: node,
+                beside: None,
+            },
             first: v,
             base: 1,
             base_last: v,
@@ -309,12 +320,19 @@ impl<S: Scope> Regions<S> {
         self.scope.limits();
         make_room(&mut self.regions, &mut self.places, node)?;
         let names = Vec::from_slice(alloc, children)?;
+        let joint = joint_of(&self.places, &self.regions, self.clock, node, children);
         let listing = list_together(&self.places, &self.regions, &mut self.marks, children);
-        adopt(&self.places, &mut self.regions, children, Some(node));
         let blossom = Region {
             name: node,
             children: names,
             parent: None,
+            head: joint.head,
+            inside: joint.inside,
+            size: joint.size,
+            link: Link {
+                top: node,
+                beside: None,
+            },
             first: listing.first,
             base: listing.count,
             base_last: listing.last,
@@ -326,6 +344,13 @@ impl<S: Scope> Regions<S> {
             since: 0,
         };
         enter(&mut self.regions, &mut self.places, blossom);
+        rejoin(
+            &self.places,
+            &mut self.regions,
+            self.clock,
+            children,
+            Some(joint),
+        );
         Ok(())
     }
 
@@ -343,9 +368,10 @@ impl<S: Scope> Regions<S> {
         let blossom = self.regions.remove(place);
         set_place(&mut self.places, node, None);
         enter_from(&mut self.places, &self.regions, place);
-        adopt(
+        rejoin(
             &self.places,
             &mut self.regions,
+            self.clock,
             blossom.children.as_slice(),
             None,
         );
@@ -428,10 +454,10 @@ impl<S: Scope> Regions<S> {
     {
         self.scope.limits();
         let step = self.step_over(edge);
-        let Some(mark) = self.marks.at(step.from) else {
+        let Some(node) = self.cover_of(step.from) else {
             unreachable!()
         };
-        let Some(node) = root_of(&self.places, &self.regions, mark.leaf) else {
+        let Some(mark) = self.marks.at(step.from) else {
             unreachable!()
         };
         let Some(place) = place_of(&self.places, node) else {
@@ -530,19 +556,16 @@ impl<S: Scope> Regions<S> {
     pub fn cover_of(&self, v: u32) -> Option<NodeId>
         ensures { result ≡ cover_of self.now.nodes v }
     {
-        let Some(mark) = self.marks.at(v) else {
-            return None;
-        };
-        root_of(&self.places, &self.regions, mark.leaf)
+        Some(self.holder(v)?.node)
     }
 
-    /// The outer node that holds the vertex, with the vertex's potential; none for an uncovered vertex. Costs one climb,
-    /// while `cover_of` and `potential` cost one each.
+    /// The outer node that holds the vertex, with the vertex's potential; none for an uncovered vertex. Takes a few hops,
+    /// at most one for each time that the number of the node's leaves doubles, and `cover_of` and `potential` as many each.
     pub fn holder(&self, v: u32) -> Option<Holder>
         ensures { IsHolder self.now.nodes v result }
     {
         let mark = self.marks.at(v)?;
-        let climb = climb_from(&self.places, &self.regions, self.clock, mark.leaf)?;
+        let climb = climb_from(&self.places, &self.regions, self.clock, mark.leaf);
         Some(Holder {
             node: climb.root,
             potential: climb.radii - mark.distance,

@@ -1,63 +1,42 @@
-use Rattle.std.proofs.Common.{◌≡◌, sym, ◌∙◌, arith, Some, None}
-use Rattle.fb_regions.specs.InternalClock.{all_at}
-use Rattle.fb_regions.proofs.ByName.{first_placed, placed}
-use Rattle.fb_regions.proofs.Climbs.{climb_ended, no_climb, not_stepped, radius_within, stepped_out, stepped_up, climb_rises}
-use Rattle.fb_regions.proofs.ClockReadings.{climb_at, joined_at, placed_at, read_at_time, root_at}
+use Rattle.std.proofs.Common.{◌+◌, ◌%◌, ◌^◌, Some, ap, ◌∙◌}
+use Rattle.fb_graph.proofs.Among.{All_among}
+use Rattle.fb_regions.specs.InternalClock.{HasBegun}
+use Rattle.fb_regions.proofs.HeadClimbs.{named_among, way_begins, way_ends, way_goes_on}
 use Rattle.fb_regions.proofs.region.climb_from.Goals as goal
 
-pub loop-place-smaller : goal.loop-place-smaller
-loop-place-smaller c =
-    let at : placed c.loop-place.name c.args.regions.now ≡ Some c.in-Some.place = sym (c.requires.index.entry c.loop-place.name) ∙ sym c.in-Some.ensures in
-    let up = stepped_up c.args.regions.now c.loop-place.name c.in-Some.place c.in-Some-parent.parent _ c.requires.joined at c.index-regions-place.is c.in-Some-parent.is in
-    climb_rises c.args.regions.now c.loop-place.name c.in-Some.place c.in-Some-parent.parent _ at up
+pub loop-region-init : goal.loop-region-init
+loop-region-init c = way_begins c.args.clock c.args.regions.now c.args.leaf _ c.requires.leaf c.region_of-region.ensures
 
-pub loop-place-preserved : goal.loop-place-preserved
-loop-place-preserved c =
-    let at : placed c.loop-place.name c.args.regions.now ≡ Some c.in-Some.place = sym (c.requires.index.entry c.loop-place.name) ∙ sym c.in-Some.ensures in
-    let there = read_at_time c.args.clock c.args.regions.now c.in-Some.place _ (first_placed c.args.regions.now c.loop-place.name c.in-Some.place at).0 c.index-regions-place.is in
-    let rs = all_at c.args.clock c.args.regions.now in
-    let up =
-    stepped_up rs c.loop-place.name c.in-Some.place c.in-Some-parent.parent _ (joined_at c.args.clock c.args.regions.now c.requires.joined)
-    (placed_at c.args.clock c.args.regions.now c.loop-place.name ∙ at) there c.in-Some-parent.is in (
-      sym (root_at c.args.clock c.args.regions.now c.in-Some-parent.parent)
-          ∙ (up.root ∙ (root_at c.args.clock c.args.regions.now c.loop-place.name ∙ c.loop-place.invariant.0)),
-      omega (arith, up.radii, c.loop-place.invariant.1, c.radius_at-radii.ensures),
-    )
+pub region_of-region-requires-in-Some-clause-known : goal.region_of-region-requires-in-Some-clause-known
+region_of-region-requires-in-Some-clause-known c =
+    (way_goes_on _ _ _ _ _ c.requires.joined c.requires.heads c.loop-region.invariant c.in-Some.beside c.in-Some.is).known
 
-pub radius_at-radii-requires-clause-fits : goal.radius_at-radii-requires-clause-fits
-radius_at-radii-requires-clause-fits c =
-    let at : placed c.loop-place.name c.args.regions.now ≡ Some c.in-Some.place = sym (c.requires.index.entry c.loop-place.name) ∙ sym c.in-Some.ensures in
-    let there = read_at_time c.args.clock c.args.regions.now c.in-Some.place _ (first_placed c.args.regions.now c.loop-place.name c.in-Some.place at).0 c.index-regions-place.is in
-    omega (arith, radius_within (all_at c.args.clock c.args.regions.now) c.loop-place.name c.in-Some.place _ (placed_at c.args.clock c.args.regions.now c.loop-place.name ∙ at) there, c.loop-place.invariant.1, c.requires.fits)
+pub loop-region-smaller : goal.loop-region-smaller
+loop-region-smaller c =
+    (way_goes_on _ _ _ _ _ c.requires.joined c.requires.heads c.loop-region.invariant c.in-Some.beside c.in-Some.is).later _
+    c.region_of-region-in-Some.ensures
 
-pub overflow_add-radii : goal.overflow_add-radii
-overflow_add-radii c =
-    let at : placed c.loop-place.name c.args.regions.now ≡ Some c.in-Some.place = sym (c.requires.index.entry c.loop-place.name) ∙ sym c.in-Some.ensures in
-    let there = read_at_time c.args.clock c.args.regions.now c.in-Some.place _ (first_placed c.args.regions.now c.loop-place.name c.in-Some.place at).0 c.index-regions-place.is in
-    omega (
-      arith,
-      radius_within (all_at c.args.clock c.args.regions.now) c.loop-place.name c.in-Some.place _ (placed_at c.args.clock c.args.regions.now c.loop-place.name ∙ at) there,
-      c.loop-place.invariant.1,
-      c.requires.fits,
-      c.radius_at-radii.ensures,
-    )
+pub loop-region-preserved : goal.loop-region-preserved
+loop-region-preserved c =
+    (way_goes_on _ _ _ _ _ c.requires.joined c.requires.heads c.loop-region.invariant c.in-Some.beside c.in-Some.is).on _
+    c.region_of-region-in-Some.ensures
 
-pub returns-in_default-parent : goal.returns-in_default-parent
-returns-in_default-parent c =
-    let at : placed c.loop-place.name c.args.regions.now ≡ Some c.in-Some.place = sym (c.requires.index.entry c.loop-place.name) ∙ sym c.in-Some.ensures in
-    let there = read_at_time c.args.clock c.args.regions.now c.in-Some.place _ (first_placed c.args.regions.now c.loop-place.name c.in-Some.place at).0 c.index-regions-place.is in
-    let rs = all_at c.args.clock c.args.regions.now in
-    let is = stepped_out rs c.loop-place.name c.in-Some.place _ (placed_at c.args.clock c.args.regions.now c.loop-place.name ∙ at) there c.in_default-parent.is in
-    climb_ended rs c.args.leaf c.loop-place.name _
-    (root_at c.args.clock c.args.regions.now c.args.leaf
-    ∙ (sym c.loop-place.invariant.0 ∙ (sym (root_at c.args.clock c.args.regions.now c.loop-place.name) ∙ is.0)))
-    (omega (arith, is.1, c.loop-place.invariant.1, c.radius_at-radii.ensures))
-    ∙ sym (climb_at c.args.clock c.args.regions.now c.args.leaf)
+pub region_of-outer-requires-clause-known : goal.region_of-outer-requires-clause-known
+region_of-outer-requires-clause-known c =
+    (way_ends _ _ _ _ _ c.requires.joined c.requires.heads c.loop-region.invariant c.in_default.is).known
+
+pub depth-requires-clause-begun : goal.depth-requires-clause-begun
+depth-requires-clause-begun c =
+    All_among (HasBegun c.args.clock) c.args.regions.now c.requires.begun _
+    (named_among c.args.regions.now c.loop-region.region.now.link.top _ c.region_of-outer.ensures)
+
+pub depth-requires-clause-fits : goal.depth-requires-clause-fits
+depth-requires-clause-fits c =
+    (way_ends _ _ _ _ _ c.requires.joined c.requires.heads c.loop-region.invariant c.in_default.is).fits c.requires.leaf c.requires.fits _
+    c.region_of-outer.ensures
 
 pub returns : goal.returns
 returns c =
-    let out : placed c.loop-place.name c.args.regions.now ≡ None = sym (c.requires.index.entry c.loop-place.name) ∙ sym c.in_default.ensures in
-    no_climb (all_at c.args.clock c.args.regions.now) c.args.leaf
-    (root_at c.args.clock c.args.regions.now c.args.leaf
-    ∙ (sym c.loop-place.invariant.0 ∙ (not_stepped c.args.regions.now c.loop-place.name out).0))
-    ∙ sym (climb_at c.args.clock c.args.regions.now c.args.leaf)
+    ap (λ n. Some (record { root = c.loop-region.region.now.link.top; radii = (c.loop-region.radii + n) % 2 ^ 64 })) c.depth.ensures
+    ∙ (way_ends _ _ _ _ _ c.requires.joined c.requires.heads c.loop-region.invariant c.in_default.is).climb c.requires.fits _
+    c.region_of-outer.ensures

@@ -1,13 +1,9 @@
-use Rattle.std.proofs.Common.{◌≡◌, ◌+◌, ◌-◌, ◌==◌, length}
-use Rattle.std.specs.List.{position_or_len}
 use Rattle.fb_regions.specs.InternalClock.{all_at}
-use Rattle.fb_regions.specs.InternalNodes.{radii_from, root_from}
+use Rattle.fb_regions.proofs.HeadClimbs.{IsOnWay, rank_in}
 use Rattle.fb_regions.proofs.region.climb_from.Given as goal
 
-abbrev pub invariant-loop-place : goal.invariant-loop-place
-invariant-loop-place l =
-    (root_from l.regions l.name ≡ root_from l.regions l.leaf)
-    × (l.radii + radii_from (all_at l.clock l.regions) l.name ≡ radii_from (all_at l.clock l.regions) l.leaf)
+abbrev pub invariant-loop-region : goal.invariant-loop-region
+invariant-loop-region l = IsOnWay l.clock l.regions l.leaf l.radii l.region
 
-abbrev pub decreases-loop-place : goal.decreases-loop-place
-decreases-loop-place l = length l.regions - position_or_len (λ r. r.name == l.name) l.regions
+abbrev pub decreases-loop-region : goal.decreases-loop-region
+decreases-loop-region l = rank_in (all_at l.clock l.regions) l.region.link.top

@@ -10,8 +10,8 @@ pub invariant_of-self : goal.invariant_of-self
 invariant_of-self g c =
     let is = advanced_on _ c.self.inside.regions.items c.self.inside.places.items c.self.inside.marks c.self.inside.clock c.args.length
     c.self.invariant.0 c.self.invariant.1 c.self.invariant.2 c.limits.ensures (rw (← c.self.view_is) at c.requires.roles)
-    (rw (← c.self.view_is) at c.requires.crossed) (rw (← c.self.view_is) at c.requires.may) c.in-Some.clock c.in-Some.ensures.1 in
-    (is.kept, is.index, is.begun)
+    (rw (← c.self.view_is) at c.requires.crossed) (rw (← c.self.view_is) at c.requires.may) c.self.invariant.3 c.in-Some.clock c.in-Some.ensures.1 in
+    (is.kept, is.index, is.begun, is.heads)
 
 pub settle_all-requires-clause-tops : goal.settle_all-requires-clause-tops
 settle_all-requires-clause-tops g c =
@@ -30,10 +30,10 @@ invariant_of-self-in_default g c =
     let settled = c.settle_all.ensures ∙ ap (all_at c.self.inside.clock) c.deref_mut.ensures.value in
     let is = advanced_anew _ c.self.inside.regions.items c.self.inside.places.items c.self.inside.marks c.self.inside.clock c.args.length
     c.self.invariant.0 c.self.invariant.1 c.self.invariant.2 c.limits.ensures (rw (← c.self.view_is) at c.requires.roles)
-    (rw (← c.self.view_is) at c.requires.crossed) (rw (← c.self.view_is) at c.requires.may) _
+    (rw (← c.self.view_is) at c.requires.crossed) (rw (← c.self.view_is) at c.requires.may) c.self.invariant.3 _
     (ap (λ l. take c.self.inside.regions.len (l ++ drop (length l) c.self.inside.regions.items)) settled
     ∙ mapped_back (now_at c.self.inside.clock) c.self.inside.regions.items c.self.inside.regions.len c.self.inside.regions.ok.0) in
-    (is.kept, is.index, is.begun)
+    (is.kept, is.index, is.begun, is.heads)
 
 pub returns-in-Some : goal.returns-in-Some
 returns-in-Some g c =
@@ -41,7 +41,7 @@ returns-in-Some g c =
     (view_advanced (g.S.Scope.problem c.self.inside.scope) c.self.inside.regions.items c.self.inside.places.items c.self.inside.marks c.self.inside.clock c.args.length _ _
     (advanced_on _ c.self.inside.regions.items c.self.inside.places.items c.self.inside.marks c.self.inside.clock c.args.length
     c.self.invariant.0 c.self.invariant.1 c.self.invariant.2 c.limits.ensures (rw (← c.self.view_is) at c.requires.roles)
-    (rw (← c.self.view_is) at c.requires.crossed) (rw (← c.self.view_is) at c.requires.may) c.in-Some.clock c.in-Some.ensures.1) c.self.inside.scope)
+    (rw (← c.self.view_is) at c.requires.crossed) (rw (← c.self.view_is) at c.requires.may) c.self.invariant.3 c.in-Some.clock c.in-Some.ensures.1) c.self.inside.scope)
 
 pub returns-in_default : goal.returns-in_default
 returns-in_default g c =
@@ -50,6 +50,6 @@ returns-in_default g c =
     (view_advanced (g.S.Scope.problem c.self.inside.scope) c.self.inside.regions.items c.self.inside.places.items c.self.inside.marks c.self.inside.clock c.args.length _ _
     (advanced_anew _ c.self.inside.regions.items c.self.inside.places.items c.self.inside.marks c.self.inside.clock c.args.length
     c.self.invariant.0 c.self.invariant.1 c.self.invariant.2 c.limits.ensures (rw (← c.self.view_is) at c.requires.roles)
-    (rw (← c.self.view_is) at c.requires.crossed) (rw (← c.self.view_is) at c.requires.may) _
+    (rw (← c.self.view_is) at c.requires.crossed) (rw (← c.self.view_is) at c.requires.may) c.self.invariant.3 _
     (ap (λ l. take c.self.inside.regions.len (l ++ drop (length l) c.self.inside.regions.items)) settled
     ∙ mapped_back (now_at c.self.inside.clock) c.self.inside.regions.items c.self.inside.regions.len c.self.inside.regions.ok.0)) c.self.inside.scope)

@@ -1,11 +1,14 @@
 use Rattle.std.proofs.Common.{refl, sym, ap, ◌∙◌, subst, arith}
 use Rattle.fb_graph.specs.Certificate.{AreDistinct}
 use Rattle.fb_links.specs.Names.{name_by}
+use Rattle.fb_regions.specs.InternalHeads.{HaveHeads}
+use Rattle.fb_regions.specs.InternalListings.{region_named}
 use Rattle.fb_regions.specs.InternalNodes.{nodes_of}
 use Rattle.fb_regions.specs.Paces.{grows, shrinks}
 use Rattle.fb_regions.proofs.ByName.{names}
 use Rattle.fb_regions.proofs.ClockLists.{all_both, begun_both, kept_both_at, paced_both, paced_same}
 use Rattle.fb_regions.proofs.ClockReadings.{names_at}
+use Rattle.fb_regions.proofs.HeadsMerged.{heads_merged}
 use Rattle.fb_regions.proofs.MergedNames.{marks_by}
 use Rattle.fb_regions.proofs.MergedStates.{distinct_both, kept_both, nodes_both}
 use Rattle.fb_regions.proofs.regions.Regions.merged_with_spare.Goals as goal
@@ -38,6 +41,11 @@ invariant_of-merged g c =
           _ (marks_by _ _ c.in_ok-names.ensures.names _ _ _ c.in_ok-take_marks.ensures) (rw (← c.left.view_is) at c.requires.left_vertices))),
       c.in_ok-names.ensures.index,
       rw c.in_ok-names.ensures.nodes (begun_both c.left.inside.clock (name_by c.args.nodes.now) c.left.inside.regions.items c.right.inside.regions.items c.left.invariant.2),
+      rw c.in_ok-names.ensures.nodes
+          (subst (λ l. HaveHeads (region_named l))
+          (sym (all_both c.left.inside.clock c.right.inside.clock (name_by c.args.nodes.now) c.left.inside.regions.items c.right.inside.regions.items rest.plus rest.minus))
+          (heads_merged _ _ _ _ _ _ _ _ c.limits.ensures (rw (← c.left.view_is, ← c.right.view_is) at c.requires.parts)
+          c.left.invariant.0 c.right.invariant.0 (rw (← c.left.view_is, ← c.right.view_is) at c.requires.names) c.left.invariant.3 c.right.invariant.3)),
     )
 
 pub returns : goal.returns

@@ -3,6 +3,7 @@ use Rattle.fb_regions.specs.InternalNodes.{nodes_of}
 use Rattle.fb_regions.specs.Paces.{grows, shrinks}
 use Rattle.fb_regions.proofs.ClockLists.{begun_push, kept_push, paced_push, paced_same}
 use Rattle.fb_regions.proofs.ClockReadings.{appended_at, names_at}
+use Rattle.fb_regions.proofs.HeadsJoined.{heads_with_leaf}
 use Rattle.fb_regions.proofs.Indexed.{fresh_name, index_pushed, index_same}
 use Rattle.fb_regions.proofs.Opened.{kept_opened, opened_nodes}
 use Rattle.fb_regions.proofs.regions.Regions.open_leaf.Goals as goal
@@ -31,6 +32,9 @@ invariant_of-self-2 g c =
           (ap length c.make_room.ensures.nodes)
           (rw (names_at c.self.inside.clock c.self.inside.regions.items) at (fresh_name c.self.inside.marks _ c.args.node (rw (← c.self.view_is) at c.requires.fresh))) c.enter.ensures.entry),
       rw (c.enter.ensures.nodes, c.make_room.ensures.nodes) (begun_push _ _ _ refl c.self.invariant.2),
+      rw (c.enter.ensures.nodes, c.make_room.ensures.nodes)
+          (heads_with_leaf _ _ _ _ c.self.invariant.0 c.self.invariant.3 c.args.node _ (rw (← c.self.view_is) at c.requires.fresh) refl c.new.ensures.items
+          refl refl refl refl),
     )
 
 pub returns-clause-ok : goal.returns-clause-ok

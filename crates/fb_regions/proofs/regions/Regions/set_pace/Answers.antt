@@ -14,7 +14,7 @@ pub invariant_of-self : goal.invariant_of-self
 invariant_of-self g c =
     rw c.settle.ensures
     (kept_at_time _ c.self.inside.clock _ _ _ _ c.args.node c.in-Some.place _ c.args.pace c.self.invariant.1 c.deref.ensures.value c.in-Some.ensures
-    c.index_mut-region.ensures.value c.self.invariant.0 c.self.invariant.2)
+    c.index_mut-region.ensures.value c.self.invariant.0 c.self.invariant.2 c.self.invariant.3)
 
 pub returns-in-Some-clause-same : goal.returns-in-Some-clause-same
 returns-in-Some-clause-same g c =
@@ -27,7 +27,7 @@ pub returns-in-Some-clause-paces : goal.returns-in-Some-clause-paces
 returns-in-Some-clause-paces g c =
     rw (← c.self.view_is, c.settle.ensures)
     (paces_at_time _ c.self.inside.clock _ _ _ _ c.args.node c.in-Some.place _ c.args.pace c.self.invariant.1 c.deref.ensures.value c.in-Some.ensures
-    c.index_mut-region.ensures.value c.self.invariant.0 c.self.invariant.2)
+    c.index_mut-region.ensures.value c.self.invariant.0 c.self.invariant.2 c.self.invariant.3)
 
 pub returns-in_default-clause-paces : goal.returns-in_default-clause-paces
 returns-in_default-clause-paces g c =

@@ -2,6 +2,7 @@ use Rattle.std.proofs.Common.{◌-◌, arith, refl, ap, None}
 use Rattle.fb_regions.specs.InternalClock.{all_at, now_at}
 use Rattle.fb_regions.proofs.ClockChanges.{kept_settled, read_place_at, settled, small_at, view_settled}
 use Rattle.fb_regions.proofs.Found.{not_found}
+use Rattle.fb_regions.proofs.HeadsKept.{alike_outer}
 use Rattle.fb_regions.proofs.Turned.{shrinking}
 use Rattle.fb_regions.proofs.regions.Regions.shrink.Goals as goal
 
@@ -48,7 +49,8 @@ invariant_of-self g c =
     c.deref.ensures.value c.in-Some.ensures c.index_mut-region.ensures.value refl refl refl in
     rw c.settle.ensures (kept_settled _ _ _ _ _ _ _ s _ _
     (shrinking _ _ _ c.self.invariant.0 c.limits.ensures c.args.node c.args.k c.in-Some.place _ s.at s.is_old
-    (rw (← c.self.view_is) at c.requires.outer) (rw (← c.self.view_is) at c.requires.value)).0.kept)
+    (rw (← c.self.view_is) at c.requires.outer) (rw (← c.self.view_is) at c.requires.value)).0.kept c.self.invariant.3
+    (alike_outer _ _ _ c.self.invariant.0 c.args.node c.in-Some.place _ _ s.at s.is_old (rw (← c.self.view_is) at c.requires.outer) refl refl refl refl refl) refl)
 
 pub returns : goal.returns
 returns g c =

@@ -3,6 +3,7 @@ use Rattle.fb_regions.specs.InternalClock.{all_at, now_at}
 use Rattle.fb_regions.specs.InternalNodes.{mark_of}
 use Rattle.fb_regions.proofs.ClockChanges.{kept_settled, read_place_at, settled, small_at, view_settled}
 use Rattle.fb_regions.proofs.Found.{always_found}
+use Rattle.fb_regions.proofs.HeadsKept.{alike_outer}
 use Rattle.fb_regions.proofs.Lowered.{kept_lowered, last_marked, lowered_nodes, some_added}
 use Rattle.fb_regions.proofs.regions.Regions.uncover.Goals as goal
 
@@ -51,7 +52,8 @@ invariant_of-self g c =
     c.deref.ensures.value c.in-Some.ensures c.index_mut-region.ensures.value refl refl refl in
     rw (c.take.ensures, c.settle.ensures) (kept_settled _ _ _ _ _ _ _ s _ _
     (kept_lowered _ _ _ c.self.invariant.0 c.args.node c.in-Some.place _ s.at s.is_old (rw (← c.self.view_is) at c.requires) c.in-Some-at.mark.now
-    (sym (rw c.settle.ensures at c.in-Some-at.ensures))))
+    (sym (rw c.settle.ensures at c.in-Some-at.ensures))) c.self.invariant.3
+    (alike_outer _ _ _ c.self.invariant.0 c.args.node c.in-Some.place _ _ s.at s.is_old (let may = rw (← c.self.view_is) at c.requires in may.outer) refl refl refl refl refl) refl)
 
 pub returns : goal.returns
 returns g c =
