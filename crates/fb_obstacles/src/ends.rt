@@ -7,7 +7,7 @@ ghost use Rattle.fb_obstacles.specs.InternalLooks.{AreEnds, IsEnd, cover_by, far
 
 use crate::NodeId;
 use fb_graph::Scope;
-use fb_regions::{Holder, Regions, Role, Roles};
+use fb_regions::{Holder, Regions, Role, Roles, residue_left};
 
 /// What is over an end of an edge.
 #[derive(Clone, Copy)]
@@ -95,9 +95,7 @@ impl Ends {
     pub fn residue(self, weight: u64) -> u64
         ensures { result ≡ residue_by self weight }
     {
-        weight
-            .saturating_sub(potential_by(self.first))
-            .saturating_sub(potential_by(self.second))
+        residue_left(weight, potential_by(self.first), potential_by(self.second))
     }
 
     /// Whether one outer node holds both ends.

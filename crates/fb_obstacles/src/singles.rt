@@ -7,7 +7,7 @@ ghost use Rattle.fb_graph.specs.Problem.{edge_at, touches};
 ghost use Rattle.fb_obstacles.specs.InternalSingles.{HasRoom, IsReach, IsShare, is_nearer, is_single, with_best};
 
 use fb_graph::Scope;
-use fb_regions::{NodeId, Regions};
+use fb_regions::{NodeId, Regions, residue_left};
 
 /// An edge at a single defect, with what it reaches.
 #[derive(Clone, Copy)]
@@ -66,17 +66,6 @@ fn other_end<S: Scope>(scope: &S, edge: u32, v: u32) -> u32
     if first == v { second } else { first }
 }
 
-/// The residue of an edge whose ends have these potentials.
-fn residue_between<S: Scope>(scope: &S, edge: u32, potential: u64, far_potential: u64) -> u64
-    requires { edge < length (S.problem scope.now).edges }
-    ensures { result ≡ (edge_at (S.problem scope.now).edges edge).weight - (potential + far_potential) }
-{
-    scope
-        .weight(edge)
-        .saturating_sub(potential)
-        .saturating_sub(far_potential)
-}
-
 /// The edge at a single defect, the vertex `v` of this potential, with what it reaches.
 pub fn reach_over<S: Scope>(regions: &Regions<S>, v: u32, potential: u64, edge: u32) -> Reach
     requires within { edge < length (S.problem regions.now.scope).edges }
@@ -96,7 +85,7 @@ pub fn reach_over<S: Scope>(regions: &Regions<S>, v: u32, potential: u64, edge: 
         far,
         far_potential,
         other: holder.map(|holder| holder.node),
-        length: residue_between(scope, edge, potential, far_potential),
+        length: residue_left(scope.weight(edge), potential, far_potential),
     }
 }
 
@@ -137,7 +126,7 @@ pub fn room_beside<S: Scope>(regions: &Regions<S>, v: u32, potential: u64, far: 
     for edge in scope.edges_at(v) {
         let end = other_end(scope, *edge, v);
         if end != far {
-            let residue = residue_between(scope, *edge, potential, regions.potential(end));
+            let residue = residue_left(scope.weight(*edge), potential, regions.potential(end));
             room = room.min(residue);
         }
     }

@@ -28,6 +28,7 @@ use crate::marks::{Hop, Mark, Marks};
 use crate::merging::{take_marks, take_nodes};
 use crate::places::{enter, enter_from, make_room, place_of, set_place};
 use crate::region::{self, Region, climb_from};
+use crate::residues::residue_left;
 use crate::{Layer, NodeId, Role, Roles, Step, Walk};
 use fb_graph::{NoMemory, Scope};
 use std::alloc::Global;
@@ -548,8 +549,11 @@ impl<S: Scope> Regions<S> {
             ¬ AreUnderOne self.now.nodes e.first e.second → result ≡ e.weight - load_of (all_cuts self.now.nodes) e }
     {
         let (first, second) = self.scope.ends(edge);
-        let load = self.potential(first) + self.potential(second);
-        self.scope.weight(edge).saturating_sub(load)
+        residue_left(
+            self.scope.weight(edge),
+            self.potential(first),
+            self.potential(second),
+        )
     }
 
     /// The outer node that holds the vertex; none for an uncovered vertex.

@@ -11,8 +11,8 @@ other_end-end-requires-clause-touches g c =
     listed_touch (g.S.Scope.problem c.scope-scope.result.now).edges c.args.v c.loop-edge.edge-index c.edges_at-edge-items.result.now
     c.edges_at-edge-items.ensures c.loop-edge-test.true
 
-pub residue_between-residue-requires : goal.residue_between-residue-requires
-residue_between-residue-requires g c =
+pub weight-requires : goal.weight-requires
+weight-requires g c =
     listed_below (g.S.Scope.problem c.scope-scope.result.now).edges c.args.v c.loop-edge.edge-index c.edges_at-edge-items.result.now
     c.edges_at-edge-items.ensures c.loop-edge-test.true
 
