@@ -54,7 +54,9 @@ impl Forest {
         requires { AreDistinct roots.now }
         ensures { IfOk result (λ forest. forest ≡ bare_trees roots.now) }
     {
-        Forest::empty(alloc).restart(alloc, roots)
+        let mut forest = Forest::empty(alloc);
+        forest.restart(alloc, roots)?;
+        Ok(forest)
     }
 
     /// A forest of no trees, for a later restart. Takes no memory.
@@ -74,16 +76,15 @@ impl Forest {
     /// One tree for each root, the root alone, in the room of this forest. Takes time for each tree of this forest, for the
     /// nodes of those that aren't dissolved, and for each root, but never for the room of the tables, which grow only for a
     /// name larger than each before.
-    pub fn restart(self, alloc: Global, roots: &[NodeId]) -> Result<Forest, NoMemory>
+    pub fn restart(&mut self, alloc: Global, roots: &[NodeId]) -> Result<(), NoMemory>
         requires { AreDistinct roots.now }
-        ensures { IfOk result (λ forest. forest ≡ bare_trees roots.now) }
+        ensures { OnOk result (self.new ≡ bare_trees roots.now) }
     {
-        let mut forest = self;
-        forest.clear();
+        self.clear();
         for root in roots {
-            forest.add_tree(alloc, *root)?;
+            self.add_tree(alloc, *root)?;
         }
-        Ok(forest)
+        Ok(())
     }
 
     /// Takes all trees away, and their numbers too. The room for the tables and for the list of trees stays.
