@@ -25,7 +25,7 @@ use Rattle.fb_book.proofs.Trees.{forest_of_tree, small_tree}
 use Rattle.fb_slots.specs.Ordered.{IsByItem}
 use Rattle.fb_crew.proofs.Order.{by_item, nodes_within}
 use Rattle.fb_crew.specs.InternalWindows.{AreOddAt, IsSorted, SortingLaws, even_of, even_places, rows_by, with_places}
-use Rattle.fb_crew.specs.Windows.{AreRows, IsHistoryOf, IsShotRow, best_places, is_best, seat_count}
+use Rattle.fb_crew.specs.Windows.{AreRows, IsHistoryOf, IsShotRow, best_places, is_best, most_seats}
 
 module _ (g : DecodingGraph) where
   pub rows_right : (odd : List (Option ℕ)) (shots : List ShotValue) (solved : List Row) → AreOddAt g shots odd
@@ -319,7 +319,7 @@ sorting_laws g t workers shots odd even ps solved history tree sorted rows compl
   rows_right g odd shots solved sorted.each solved_rows,
   close (history_of t tree workers (length (rows_by odd solved)) odd history enough
       (subst (λ m. IsComplete (kids_in t.units t.joins) (node_count t) (m * node_count t) history) as_many complete) by
-      (seat_count workers (length even * t.units)) seated order),
+      (most_seats workers (length even * t.units)) seated order),
 )
   where
     solved_rows : AreRows g (even_of odd shots) solved
@@ -338,7 +338,7 @@ sorting_laws g t workers shots odd even ps solved history tree sorted rows compl
         (with_places (even_places 0 odd) history)
         × All (λ e. is_in (even_places 0 odd) e.slot ≡ true) (with_places (even_places 0 odd) history)
         × All (λ e. e.worker ≤ workers) (with_places (even_places 0 odd) history)
-        × All (λ e. e.worker < seat_count workers (length even * t.units)) (with_places (even_places 0 odd) history)
+        × All (λ e. e.worker < most_seats workers (length even * t.units)) (with_places (even_places 0 odd) history)
         × IsByItem (node_count t) (with_places (even_places 0 odd) history)
         → IsHistoryOf t workers (rows_by odd solved) (with_places ps history)
     close made = subst (λ qs. IsHistoryOf t workers (rows_by odd solved) (with_places qs history)) (sym sorted.places_are) (record {
@@ -346,7 +346,7 @@ sorting_laws g t workers shots odd even ps solved history tree sorted rows compl
           (with_places (even_places 0 odd) history)) same_places made.0;
       within = subst (λ on. All (λ e. is_in on e.slot ≡ true) (with_places (even_places 0 odd) history)) same_places made.1;
       by = made.2;
-      seats = subst (λ (m : ℕ). All (λ e. e.worker < seat_count workers (m * t.units)) (with_places (even_places 0 odd) history))
+      seats = subst (λ (m : ℕ). All (λ e. e.worker < most_seats workers (m * t.units)) (with_places (even_places 0 odd) history))
           (as_many ∙ ap length same_places) made.3;
       order = made.4;
     })

@@ -21,7 +21,7 @@ use Rattle.fb_book.proofs.Handing.{one_item}
 use Rattle.std.proofs.lemmas.Option.{slice_get-get_or}
 use Rattle.std.proofs.lemmas.List.Sums.{sum_by-cons}
 use Rattle.fb_crew.specs.InternalSolved.{SolvedValue, item_at, item_of}
-use Rattle.fb_crew.specs.Windows.{AreRows, IsHistoryOf, IsShotRow, seat_count}
+use Rattle.fb_crew.specs.Windows.{AreRows, IsHistoryOf, IsShotRow, most_seats}
 
 module _ (g : DecodingGraph) where
   pub even_shots : (odd : List (Option ℕ)) (shots : List ShotValue) → All (IsShot g) shots → All (IsShot g) (even_of odd shots)
@@ -189,7 +189,7 @@ module _ (g : DecodingGraph) (t : PlanTree) (plan : IsPlan g t) (shots : List Sh
       as_many = ap length sorted.even_are ∙ sym (as_many_places g 0 odd shots sorted.each) ∙ sym (ap length sorted.places_are)
 
   pub window_made : (workers : ℕ) (j : JobValue) → j ≡ job → (solved : List Row) (history : List Entry) → AreRows g even solved → IsCompleteOf j history
-      → All (λ e. e.worker ≤ workers) history → All (λ e. e.worker < seat_count workers (length even * t.units)) history
+      → All (λ e. e.worker ≤ workers) history → All (λ e. e.worker < most_seats workers (length even * t.units)) history
       → IsByItem (node_count t) history
       → AreRows g shots (rows_by odd solved) × IsHistoryOf t workers (rows_by odd solved) (with_places places history)
   window_made workers j e solved history answers complete by seated order =

@@ -14,7 +14,7 @@ use Rattle.fb_book.specs.declared.entries.Entry.{Entry}
 use Rattle.fb_book.specs.declared.limits.TheConstants.{MOST_WORKERS}
 use Rattle.fb_slots.specs.Ordered.{IsByItem}
 use Rattle.fb_crew.specs.InternalSolved.{SolvedValue, shot_at}
-use Rattle.fb_crew.specs.Windows.{AreRows, IsHistoryOf, IsShotRow, seat_count}
+use Rattle.fb_crew.specs.Windows.{AreRows, IsHistoryOf, IsShotRow, most_seats}
 
 -- what a crew keeps
 pub record IsCrew (g : DecodingGraph) (t : PlanTree) (parts : DecodingGraph) (workers : ℕ) (tools : Option ℕ) : Type 0 where
@@ -61,7 +61,7 @@ abbrev pub SortingLaws : Type 0
 SortingLaws = (g : DecodingGraph) (t : PlanTree) (workers : ℕ) (shots : List ShotValue) (odd : List (Option ℕ)) (even : List ShotValue)
     (places : List ℕ) (solved : List Row) (history : List Entry) → IsTree t → IsSorted g shots odd even places → AreRows g even solved
     → IsComplete (kids_in t.units t.joins) (node_count t) (length even * node_count t) history → All (λ e. e.worker ≤ workers) history
-    → All (λ e. e.worker < seat_count workers (length even * t.units)) history → IsByItem (node_count t) history
+    → All (λ e. e.worker < most_seats workers (length even * t.units)) history → IsByItem (node_count t) history
     → AreRows g shots (rows_by odd solved) × IsHistoryOf t workers (rows_by odd solved) (with_places places history)
 
 -- the solved items of the roots of all slots

@@ -1,6 +1,6 @@
 //! All items of a job by workers side by side.
 
-ghost use Rattle.std.specs.Prelude.{◌≡◌, ◌+◌, ◌*◌, ◌≤◌, ◌<◌, [], length, All, Err, IfNone, IfOk, IfSome, MatchResult, OnOk, OnSome};
+ghost use Rattle.std.specs.Prelude.{◌≡◌, ◌+◌, ◌-◌, ◌*◌, ◌^◌, ◌≤◌, ◌<◌, [], length, min, All, Err, IfNone, IfOk, IfSome, MatchResult, OnOk, OnSome};
 ghost use Rattle.fb_book.specs.Books.{AreRootPieces};
 ghost use Rattle.fb_plan.specs.Plans.{node_count};
 ghost use Rattle.fb_hands.specs.Gates.{HasPassed};
@@ -8,14 +8,14 @@ ghost use Rattle.fb_hands.specs.Jobs.{IsCompleteOf};
 ghost use Rattle.fb_slots.specs.Ordered.{IsByItem};
 ghost use Rattle.fb_slots.specs.Seats.{entries_in};
 ghost use Rattle.fb_crew.specs.InternalSeats.{IsEnded, IsNew};
-ghost use Rattle.fb_crew.specs.Windows.{seat_count};
+ghost use Rattle.fb_crew.specs.Windows.{defect_count, seat_count};
 ghost use denote.Param.Send.{IsSync};
 
 use crate::ends::finish;
 use crate::finished::{Finished, Worked};
 use crate::worker::Worker;
 use fb_book::{Board, Entry, MOST_WORKERS, Piece};
-use fb_graph::NoMemory;
+use fb_graph::{NoMemory, Shot};
 use fb_hands::{Bench, Gate, Hands};
 use fb_plan::Job;
 use fb_slots::{SlotBook, SlotSeat};
@@ -195,16 +195,36 @@ fn work_each<
     join_member(bench, board, members, member)
 }
 
-/// As many workers as there are tools, but no more than the job has units in all its slots, and at least one.
+/// The number of defects of a job for which one more worker is used. Fewer are solved sooner than a thread for them starts
+/// and ends.
+const DEFECTS_PER_WORKER: u64 = 256;
+
+/// The number of defects that the shots list, or `u64::MAX` if they list more.
+fn count_defects(shots: &[Shot]) -> u64
+    ensures { result ≡ min (defect_count shots.now) (2 ^ 64 - 1) }
+{
+    let mut count: u64 = 0;
+    for shot in shots {
+        count = count.saturating_add(u64::from(shot.len()));
+    }
+    count
+}
+
+/// How many workers a job is worth. One for each unit of each slot, if there are as many tools. Else one, and one more for
+/// each `DEFECTS_PER_WORKER` defects, but no more than tools. At least one.
 fn worker_count(job: &Job<'_>, tools: u32) -> u32
     requires { 1 ≤ tools }
-    ensures { result ≡ seat_count tools (length job.now.shots * job.now.plan.units) }
+    ensures { result ≡ seat_count tools (length job.now.shots * job.now.plan.units) (defect_count job.now.shots) }
 {
     let units = job
         .shots()
         .len()
         .saturating_mul(job.plan().units() as usize);
-    units.clamp(1, tools as usize) as u32
+    if units <= tools as usize {
+        return units.max(1) as u32;
+    }
+    let worth = 1 + count_defects(job.shots()) / DEFECTS_PER_WORKER;
+    worth.min(u64::from(tools)) as u32
 }
 
 /// Does all items with this number of workers beside the caller, in a run that N names. Tools that are left over stay
@@ -250,9 +270,10 @@ fn run_all<
 }
 
 /// Does all items of the job by this number of workers, each on a thread of its own but one, which is on the calling
-/// thread. Nobody waits for another one. A job of fewer units in all its slots has fewer workers. A worker that runs
-/// out of memory leaves its item and ends; the others go on until no unit is left. Who gave an item by the history has
-/// passed the gate with it.
+/// thread. Nobody waits for another one. A job of fewer units in all its slots has fewer workers, one for each; and one of
+/// more units has no more than its defects are worth: one, and one more for each 256 defects. A worker that runs out of
+/// memory leaves its item and ends; the others go on until no unit is left. Who gave an item by the history has passed
+/// the gate with it.
 pub fn work_all<P: Piece + Send + Sync, T: Send + Drop, H: Hands<P, T>, G: Gate, R: Threads + Sync>(
     rt: &R,
     alloc: Global,
@@ -268,7 +289,8 @@ pub fn work_all<P: Piece + Send + Sync, T: Send + Drop, H: Hands<P, T>, G: Gate,
     ensures history { IfOk result (λ w. IsCompleteOf job.now w.run.history) }
     ensures order { IfOk result (λ w. IsByItem (node_count job.now.plan) w.run.history) }
     ensures workers { IfOk result (λ w. All (λ e. e.worker ≤ workers) w.run.history) }
-    ensures seats { IfOk result (λ w. w.run.seats ≡ seat_count workers (length job.now.shots * job.now.plan.units)) }
+    ensures seats { IfOk result (λ w. w.run.seats ≡ seat_count workers (length job.now.shots * job.now.plan.units)
+        (defect_count job.now.shots)) }
     ensures numbers { IfOk result (λ w. All (λ e. e.worker < w.run.seats) w.run.history) }
     ensures passed { IfOk result (λ w. All (HasPassed (G.passed gate.now)) w.run.history) }
     ensures made { IfOk result (λ w. w.made ≡ length w.run.history) }

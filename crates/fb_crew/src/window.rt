@@ -7,7 +7,7 @@ ghost use Rattle.fb_hands.specs.Gates.{HasPassed};
 ghost use Rattle.fb_hands.specs.Jobs.{IsCompleteOf};
 ghost use Rattle.fb_slots.specs.Ordered.{IsByItem};
 ghost use Rattle.fb_crew.specs.InternalWindows.{AreRowsOf, AreSolvedRoots, IsSorted, with_places};
-ghost use Rattle.fb_crew.specs.Windows.{AreRows, IsHistoryOf, seat_count};
+ghost use Rattle.fb_crew.specs.Windows.{AreRows, IsHistoryOf, most_seats};
 
 use crate::crew::work_all;
 use crate::finished::{Finished, Worked};
@@ -235,7 +235,7 @@ fn join_window(
     requires history { IsCompleteOf job.now run.history }
     requires order { IsByItem (node_count job.now.plan) run.history }
     ensures made { (workers : ℕ) → All (λ e. e.worker ≤ workers) run.entry.history
-        → All (λ e. e.worker < seat_count workers (length job.now.shots * job.now.plan.units)) run.entry.history → IfOk result (λ w.
+        → All (λ e. e.worker < most_seats workers (length job.now.shots * job.now.plan.units)) run.entry.history → IfOk result (λ w.
         AreRows job.now.graph shots.now w.rows.items × IsHistoryOf job.now.plan workers w.rows.items w.history.items) }
     ensures places { IfOk result (λ w. w.history.items ≡ with_places places.now run.entry.history) }
 {

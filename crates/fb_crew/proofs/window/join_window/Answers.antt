@@ -6,7 +6,7 @@ use Rattle.fb_plan.specs.Plans.{node_count}
 use Rattle.fb_hands.specs.Jobs.{IsCompleteOf}
 use Rattle.fb_slots.specs.Ordered.{IsByItem}
 use Rattle.fb_crew.specs.InternalWindows.{AreSolvedRoots, with_places}
-use Rattle.fb_crew.specs.Windows.{AreRows, IsHistoryOf, seat_count}
+use Rattle.fb_crew.specs.Windows.{AreRows, IsHistoryOf, most_seats}
 use Rattle.fb_crew.proofs.Rooted.{at_roots_of, even_rows, history_fits, rows_for_even, window_made}
 use Rattle.fb_crew.proofs.window.join_window.Goals as goal
 use Rattle.fb_crew.proofs.window.join_window.Goals.{In_ok-solved}
@@ -38,7 +38,7 @@ returns-clause-made c workers by seated =
     c.requires.sorted workers c.args.job.now refl c.in_ok-solved.solved.items c.into_parts-roots.result.1.items
     (solved_at (goal.at.returns-clause-made c).In_ok-solved) (subst (IsCompleteOf c.args.job.now) own c.requires.history)
     (subst (All (λ e. e.worker ≤ workers)) own by)
-    (subst (All (λ e. e.worker < seat_count workers (length c.args.job.now.shots * c.args.job.now.plan.units))) own seated)
+    (subst (All (λ e. e.worker < most_seats workers (length c.args.job.now.shots * c.args.job.now.plan.units))) own seated)
     (subst (IsByItem (node_count c.args.job.now.plan)) own c.requires.order) in (
       subst (AreRows c.args.job.now.graph c.args.shots.now) (sym c.in_ok-rows.ensures) made.0,
       subst (λ (history : List Entry). IsHistoryOf c.args.job.now.plan workers c.in_ok-rows.rows.items history) (sym c.renumber.ensures)

@@ -32,13 +32,13 @@ pub returns-clause-rows : goal.returns-clause-rows
 returns-clause-rows g c =
     beside (λ (w : Window). AreRows c.args.graph.now c.args.shots.now w.rows.items) c.join_window-window.result _ c.both.result c.both.ensures
     (window_of c.args.shots.now c.args.workers c.new-job.result _ c.join_window-window.result c.new-job.ensures
-    (c.join_window-window.ensures.made c.args.workers c.in_ok-run.ensures.workers (seated c.args.workers _ _ _ c.in_ok-run.ensures.seats c.in_ok-run.ensures.numbers))).0
+    (c.join_window-window.ensures.made c.args.workers c.in_ok-run.ensures.workers (seated c.args.workers _ _ _ _ c.in_ok-run.ensures.seats c.in_ok-run.ensures.numbers))).0
 
 pub returns-clause-history : goal.returns-clause-history
 returns-clause-history g c =
     beside (λ (w : Window). IsHistoryOf c.args.plan.now c.args.workers w.rows.items w.history.items) c.join_window-window.result _ c.both.result
     c.both.ensures (window_of c.args.shots.now c.args.workers c.new-job.result _ c.join_window-window.result c.new-job.ensures
-    (c.join_window-window.ensures.made c.args.workers c.in_ok-run.ensures.workers (seated c.args.workers _ _ _ c.in_ok-run.ensures.seats c.in_ok-run.ensures.numbers))).1
+    (c.join_window-window.ensures.made c.args.workers c.in_ok-run.ensures.workers (seated c.args.workers _ _ _ _ c.in_ok-run.ensures.seats c.in_ok-run.ensures.numbers))).1
 
 pub returns-clause-passed : goal.returns-clause-passed
 returns-clause-passed g c =
