@@ -57,6 +57,8 @@ RECORDS = {
     ],
 }
 OBSERVABLES = [[0], [1, 2, 7], [], [*range(10)]]
+# As many workers as a window of two shots has units, so that each unit has a worker.
+CREW = 2 * len(PLAN["units"])
 SAMPLE = {"distance": 3, "rounds": 3, "units": 2, "rate": 200_000, "start": 5, "shots": 4}
 
 SAID = {3: b"fusion: read fault\n", 4: b"fusion: write fault\n", 5: b"fusion: out of memory\n"}
@@ -236,7 +238,7 @@ def predict_command(space, decode):
 
 
 def sample_command(space, numbers=SAMPLE):
-    words = ["sample", "--workers", "2", "--window", "2"]
+    words = ["sample", "--workers", "4", "--window", "2"]
     for name, number in numbers.items():
         words += [f"--{name}", str(number)]
     return judged(space, Command("sample", words, {}))
@@ -255,7 +257,7 @@ class Commands(dict):
 
     def made(self, name):
         if name == "crew":
-            return decode_command(self.space, "01", 3)
+            return decode_command(self.space, "01", CREW)
         if name == "good":
             return check_command(self.space, "check good", self["01"], lambda report: report)
         if name == "bad":

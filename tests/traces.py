@@ -24,12 +24,23 @@ def events_of(text, shots, window):
     return found, complaints
 
 
-def trace_complaints(plan, workers, window, best, shots, text):
-    """What is wrong with the events of a report of `shots` shots, of which those in `best` have a correction."""
+# One more worker takes part in a window for each so many defects, unless each unit has a worker.
+DEFECTS_PER_WORKER = 256
+
+
+def seat_count(workers, units, defects):
+    """How many of the workers take part at so many units and defects of all shots of a window."""
+    return max(1, units if units <= workers else min(workers, 1 + defects // DEFECTS_PER_WORKER))
+
+
+def trace_complaints(plan, workers, window, best, shots, text, defects=None):
+    """What is wrong with the events of a report of `shots` shots, of which those in `best` have a correction. Where the
+    number of defects of each shot is given, no more workers than are worth it may take part."""
     events, complaints = events_of(text, shots, window)
     for place in range((shots + window - 1) // window):
         numbers = [k for k in range(place * window, min(shots, (place + 1) * window)) if k in best]
-        complaints += Board(plan, numbers).complaints(events.pop(place, []), workers)
+        seats = workers if defects is None else seat_count(workers, plan.units * len(numbers), sum(defects[k] for k in numbers))
+        complaints += Board(plan, numbers).complaints(events.pop(place, []), seats)
     return complaints + [f"events of window {place}" for place in events]
 
 

@@ -102,6 +102,85 @@ pub fn are_made_on_the_calling_thread(alloc: Global) -> Result<(), Stopped> {
     Stopped::unless(is_right(&window, 1), "a window on the calling thread")
 }
 
+/// How often the first worker looks for another one at the gate: some seconds, so that a second thread is there in time on
+/// a busy machine too.
+const TURNS: u32 = 20_000_000;
+
+/// A gate at which the first worker waits, for a limited number of turns, until another one has come.
+#[derive(Drop)]
+struct Awaiting {
+    /// One more than the number of the worker that came first; 0 if nobody came.
+    first: AtomicU64,
+    /// 1 if another worker has come.
+    another: AtomicU64,
+}
+
+impl Awaiting {
+    fn new() -> Awaiting {
+        Awaiting {
+            first: AtomicU64::new(0),
+            another: AtomicU64::new(0),
+        }
+    }
+}
+
+impl Gate for Awaiting {
+    fn before_post(&self, worker: u32, _slot: u32, _node: u32) {
+        let mark = u64::from(worker) + 1;
+        match self.first.compare_exchange(0, mark, Ordering::SeqCst, Ordering::SeqCst) {
+            Ok(_) => {
+                for _ in 0..TURNS {
+                    if self.another.load(Ordering::SeqCst) == 1 {
+                        return;
+                    }
+                }
+            }
+            Err(first) if first != mark => self.another.store(1, Ordering::SeqCst),
+            Err(_) => {}
+        }
+    }
+}
+
+/// The history of a window of three shots with this number of defects each, by a plan of two units and four workers.
+fn history_of<G: Gate, R: Threads + Sync>(
+    rt: &R,
+    alloc: Global,
+    defects: u32,
+    gate: &G,
+) -> Result<Vec<Entry>, Stopped> {
+    let line = Line::new(alloc, vec![in alloc; 2; 202]?.as_slice(), &[101])?;
+    let mut all = Vec::new(alloc);
+    for v in 0..defects {
+        all.push(v + 1)?;
+    }
+    let mut shots = Vec::new(alloc);
+    for _ in 0..3 {
+        shots.push(line.shot(alloc, &all)?)?;
+    }
+    let mut crew = Crew::new(alloc, &line.graph, &line.plan, 4)?;
+    let window = crew.decode_window(rt, alloc, &shots, gate)?;
+    Stopped::unless(window.history.len() == 18, "the length of a window's history")?;
+    Ok(window.history)
+}
+
+/// With 255 defects in all, one worker does the six units of a window.
+pub fn have_one_worker<R: Threads + Sync>(rt: &R, alloc: Global) -> Result<(), Stopped> {
+    let history = history_of(rt, alloc, 85, &OpenGate)?;
+    Stopped::unless(history.iter().all(|entry| entry.worker == 0), "the only worker of a window")
+}
+
+/// With 258 defects in all, two of four workers do the six units of a window.
+pub fn have_two_workers<R: Threads + Sync>(rt: &R, alloc: Global) -> Result<(), Stopped> {
+    let history = history_of(rt, alloc, 86, &Awaiting::new())?;
+    let [mut first, mut second] = [false, false];
+    for entry in &history {
+        Stopped::unless(entry.worker < 2, "a third worker of a window")?;
+        first |= entry.worker == 0;
+        second |= entry.worker == 1;
+    }
+    Stopped::unless(first && second, "the two workers of a window")
+}
+
 /// What the tools of all workers count, by a crew that decodes this shot alone: units, their searches, fusions, their searches.
 fn counts_of<R: Threads + Sync>(
     rt: &R,

@@ -245,7 +245,8 @@ fn work_all_under_lock<'a, N: Board + Send + Sync, R: Threads + Wait + Sync>(
     Ok(())
 }
 
-/// A graph without vertices, its plan of two units and a fusion, and one shot without a defect.
+/// Detectors that are each beside one boundary vertex, a plan of two units and a fusion, the first unit of which has all
+/// of them, and shots in each of which all of them fire.
 #[derive(Drop)]
 pub struct Pair {
     pub graph: Graph,
@@ -254,10 +255,27 @@ pub struct Pair {
 }
 
 impl Pair {
+    /// No detector and one shot.
     pub fn new(alloc: Global) -> Result<Pair, Stopped> {
-        let graph = Graph::build(alloc, 0, &[], &[])?;
+        Pair::of(alloc, 1, 0)
+    }
+
+    /// Many shots, each with as many defects as are worth all workers.
+    pub fn many(alloc: Global) -> Result<Pair, Stopped> {
+        Pair::of(alloc, SLOTS, DEFECTS)
+    }
+
+    /// This number of shots, each with this number of defects.
+    pub fn of(alloc: Global, slots: u32, defects: u32) -> Result<Pair, Stopped> {
+        let mut edges = Vec::new(alloc);
+        let mut all = Vec::new(alloc);
+        for v in 0..defects {
+            edges.push((u64::from(v), u64::from(defects), 2))?;
+            all.push(v)?;
+        }
+        let graph = Graph::build(alloc, u64::from(defects) + 1, &edges, &[u64::from(defects)])?;
         let mut units = Vec::new(alloc);
-        units.push(Vec::new(alloc))?;
+        units.push(if defects == 0 { Vec::new(alloc) } else { vec![in alloc; (0, u64::from(defects))]? })?;
         units.push(Vec::new(alloc))?;
         let mut fusions = Vec::new(alloc);
         fusions.push(Join {
@@ -267,16 +285,8 @@ impl Pair {
         })?;
         let plan = Plan::build(alloc, &graph, &units, &fusions)?;
         let mut shots = Vec::new(alloc);
-        shots.push(Shot::from_rising(&graph, Vec::new(alloc)))?;
-        Ok(Pair { graph, plan, shots })
-    }
-
-    /// The same with many shots.
-    pub fn many(alloc: Global) -> Result<Pair, Stopped> {
-        let Pair { graph, plan, .. } = Pair::new(alloc)?;
-        let mut shots = Vec::new(alloc);
-        for _ in 0..SLOTS {
-            shots.push(Shot::from_rising(&graph, Vec::new(alloc)))?;
+        for _ in 0..slots {
+            shots.push(Shot::from_rising(&graph, Vec::from_slice(alloc, &all)?))?;
         }
         Ok(Pair { graph, plan, shots })
     }
@@ -284,6 +294,9 @@ impl Pair {
 
 /// How many shots are many.
 pub const SLOTS: u32 = 500;
+
+/// How many defects each of many shots has: all together they are worth 64 workers and more.
+const DEFECTS: u32 = 33;
 
 /// Whether the piece of each slot's root lists its three nodes.
 pub fn are_whole(roots: &[Listed<'_>]) -> bool {
@@ -376,6 +389,7 @@ fn list_many<R: Threads + Sync>(rt: &R, alloc: Global, workers: u32) -> Result<(
     let Pair { graph, plan, shots } = Pair::many(alloc)?;
     let job = Job::new(&graph, &plan, shots);
     let worked = list_by(rt, alloc, &Lister::new(&job), workers, &OpenGate)?;
+    Stopped::unless(worked.run.seats() == u64::from(workers), "the workers of many slots")?;
     Stopped::unless(are_whole(worked.run.roots()), "the roots of many slots")?;
     let mut items = 0;
     for count in &worked.tools {
@@ -410,6 +424,30 @@ pub fn are_no_more_than_units<R: Threads + Sync>(rt: &R, alloc: Global) -> Resul
     let none = Job::new(&graph, &plan, Vec::new(alloc));
     let worked = list_by(rt, alloc, &Lister::new(&none), 3, &OpenGate)?;
     Stopped::unless(worked.run.roots().is_empty() && worked.run.history().is_empty(), "a job without slots")
+}
+
+/// Eight workers at this number of shots with this number of defects each: how many of them take part.
+fn seats_of<R: Threads + Sync>(rt: &R, alloc: Global, slots: u32, defects: u32) -> Result<u64, Stopped> {
+    let Pair { graph, plan, shots } = Pair::of(alloc, slots, defects)?;
+    let job = Job::new(&graph, &plan, shots);
+    let worked = list_by(rt, alloc, &Lister::new(&job), 8, &OpenGate)?;
+    let seats = worked.run.seats();
+    let within = worked.run.history().iter().all(|entry| u64::from(entry.worker) < seats);
+    Stopped::unless(within, "a worker beyond those that take part")?;
+    Ok(seats)
+}
+
+/// Of eight workers as many take part as the defects are worth, one more for each 256; and one for each unit if there are
+/// no more units than workers, whatever the defects.
+pub fn are_as_many_as_defects_are_worth<R: Threads + Sync>(rt: &R, alloc: Global) -> Result<(), Stopped> {
+    let known = [(SLOTS, 0, 1), (255, 1, 1), (256, 1, 2), (5, 51, 1), (5, 52, 2), (5, 153, 3), (64, 1_000, 8)];
+    for (slots, defects, seats) in known {
+        Stopped::unless(seats_of(rt, alloc, slots, defects)? == seats, "the workers that defects are worth")?;
+    }
+    for (slots, defects, seats) in [(1, 0, 2), (4, 0, 8), (4, 1_000, 8), (5, 0, 1)] {
+        Stopped::unless(seats_of(rt, alloc, slots, defects)? == seats, "a worker for each unit")?;
+    }
+    Ok(())
 }
 
 /// The calling thread does each item once.

@@ -195,8 +195,8 @@ fn work_each<
     join_member(bench, board, members, member)
 }
 
-/// The number of defects of a job for which one more worker is used. Fewer are solved sooner than a thread for them starts
-/// and ends.
+/// The number of defects of a job for which one more worker is used, so that a job of few defects starts no threads that
+/// cost more than they save.
 const DEFECTS_PER_WORKER: u64 = 256;
 
 /// The number of defects that the shots list, or `u64::MAX` if they list more.

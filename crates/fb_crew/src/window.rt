@@ -32,7 +32,7 @@ pub struct Window {
     pub history: Vec<Entry>,
 }
 
-/// What solves the shots of a graph by a plan, with a number of workers. It is made once: it finds the graph's components
+/// What solves the shots of a graph by a plan, with at most a number of workers. It is made once: it finds the graph's components
 /// then, and keeps each worker's tools from one window to the next.
 #[derive(Drop)]
 pub struct Crew<'a> {
@@ -57,7 +57,7 @@ impl<'a> Model for Crew<'a> {
 }
 
 impl<'a> Crew<'a> {
-    /// What solves the shots of the graph by the plan, with this number of workers.
+    /// What solves the shots of the graph by the plan, with at most this number of workers.
     pub fn new(
         alloc: Global,
         graph: &'a Graph,
@@ -86,7 +86,8 @@ impl<'a> Crew<'a> {
         self.graph
     }
 
-    /// The rows of shots, and how they were made. With one worker everything is done on the calling thread.
+    /// The rows of shots, and how they were made. As many workers take part as `work_all` uses for the shots that have a
+    /// correction. With one worker everything is done on the calling thread.
     pub fn decode_window<G: Gate, R: Threads + Sync>(
         &mut self,
         rt: &R,
@@ -167,7 +168,7 @@ fn solve_window<G: Gate, R: Threads + Sync>(
     both(window, tools)
 }
 
-/// The rows of shots by this number of workers, and how they were made. What a `Crew` does for each of its windows, but with
+/// The rows of shots by at most this number of workers, and how they were made. What a `Crew` does for each of its windows, but with
 /// tools for this one alone.
 pub fn decode_window<G: Gate, R: Threads + Sync>(
     rt: &R,
