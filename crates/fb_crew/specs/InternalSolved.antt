@@ -27,5 +27,5 @@ item_of part = item_at part.job part.slot part.node
 
 -- below the root the part of the item; at the root the row of its shot
 abbrev pub IsFoundAt : SolvedValue → Found → Type 0
-IsFoundAt s (Part half) = IsPartOf s.job s.slot s.node half.value × (s.node ≢ root_of s.job.plan)
+IsFoundAt s (Part half) = IsPartOf s.job s.slot s.node half × (s.node ≢ root_of s.job.plan)
 IsFoundAt s (Row row) = IsShotRow s.job.graph (shot_at s) row.value × (s.node ≡ root_of s.job.plan)

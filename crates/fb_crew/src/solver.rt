@@ -29,11 +29,11 @@ pub struct Solved<'a> {
 }
 
 /// What is kept of a solved item. Nothing is fused with the plan's root, so only the room of its part is kept, in the
-/// worker's tools. Parts and rows are in boxes, since a book has room for a piece at each item.
+/// worker's tools. A row is in a box, as a part is by itself, since a book has room for a piece at each item.
 #[derive(Drop)]
 enum Found<'a> {
     /// The part of a node below the root.
-    Part(Box<Half<'a>, Global>),
+    Part(Half<'a>),
     /// The row of the root's shot.
     Row(Box<Row, Global>),
 }
@@ -56,12 +56,11 @@ impl<'a> Solved<'a> {
     {
         let (job, slot, node) = (half.job(), half.slot(), half.node());
         if node != job.plan().root() {
-            let found = Found::Part(Box::new(alloc, half)?);
             return Ok(Solved {
                 job,
                 slot,
                 node,
-                found,
+                found: Found::Part(half),
             });
         }
         let row = row_of(alloc, &half);
@@ -93,7 +92,7 @@ impl<'a> Solved<'a> {
     {
         let Solved { found, .. } = self;
         match found {
-            Found::Part(half) => Box::into_inner(half),
+            Found::Part(half) => half,
             Found::Row(_) => unreachable!(),
         }
     }
@@ -167,7 +166,7 @@ pub struct Tools {
     scratch: Option<Scratch>,
     /// The number of edges that it is for.
     edges: u32,
-    /// At most `MOST_SPARES`. The last one goes to the next unit.
+    /// At most `MOST_SPARES`. The last one goes to the next unit that has a defect.
     spares: Vec<Spare>,
     counts: Counts,
 }
@@ -214,11 +213,11 @@ impl Tools {
         }
     }
 
-    /// Keeps the room of a solved root, unless that has many nodes.
+    /// Keeps the room of a solved root, unless that has no nodes or many.
     fn keep_root(&mut self, half: Half<'_>)
         ensures { self.new ≡ self.old }
     {
-        if has_few_nodes(&half) {
+        if has_nodes(&half) && has_few_nodes(&half) {
             self.keep(half.into_spare());
         } else {
             drop(half);
@@ -324,10 +323,17 @@ fn unit_by<'a, L: Ledger>(
     ensures { IfOk result (IsPartOf job.now slot node) }
 {
     let scratch = tools.lend(alloc, job.graph())?;
-    let spare = tools.spares.pop();
     let mut steps = Steps::<L>::new(blank);
     let before = scratch.matched();
-    let (half, scratch) = solve_unit_from(alloc, job, slot, node, spare, scratch, &mut steps)?;
+    let (half, scratch) = solve_unit_from(
+        alloc,
+        job,
+        slot,
+        node,
+        &mut tools.spares,
+        scratch,
+        &mut steps,
+    )?;
     tools.count_unit(scratch.matched().saturating_sub(before));
     tools.put_back(scratch, job.graph());
     Ok(half)
@@ -352,14 +358,24 @@ fn fusion_by<'a, L: Ledger>(
     requires children { children_of job.now.plan node ≡ Some (left.node, right.node) }
     ensures { IfOk result (IsPartOf job.now left.entry.slot node) }
 {
+    let has_room = has_nodes(&right);
     let scratch = tools.lend(alloc, job.graph())?;
     let mut steps = Steps::<L>::new(blank);
     let before = scratch.matched();
     let (half, spare, scratch) = fuse_from(alloc, job, node, left, right, scratch, &mut steps)?;
     tools.count_fusion(scratch.matched().saturating_sub(before));
     tools.put_back(scratch, job.graph());
-    tools.keep(spare);
+    if has_room {
+        tools.keep(spare);
+    } else {
+        drop(spare);
+    }
     Ok(half)
+}
+
+/// Whether a part has nodes: one that never had any has no room either.
+fn has_nodes(half: &Half<'_>) -> bool {
+    half.regions().len() > 0
 }
 
 /// Whether a part has at most `MOST_KEPT_NODES` nodes.

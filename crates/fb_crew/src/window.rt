@@ -32,8 +32,8 @@ pub struct Window {
     pub history: Vec<Entry>,
 }
 
-/// What solves the shots of a graph by a plan, with at most a number of workers. It is made once: it finds the graph's components
-/// then, and keeps each worker's tools from one window to the next.
+/// What solves the shots of a graph by a plan, with at most a number of workers. It is made once: it finds the graph's
+/// components then, and keeps each worker's tools from one window to the next.
 #[derive(Drop)]
 pub struct Crew<'a> {
     graph: &'a Graph,
@@ -168,8 +168,8 @@ fn solve_window<G: Gate, R: Threads + Sync>(
     both(window, tools)
 }
 
-/// The rows of shots by at most this number of workers, and how they were made. What a `Crew` does for each of its windows, but with
-/// tools for this one alone.
+/// The rows of shots by at most this number of workers, and how they were made. What a `Crew` does for each of its windows,
+/// but with tools for this one alone.
 pub fn decode_window<G: Gate, R: Threads + Sync>(
     rt: &R,
     alloc: Global,

@@ -46,8 +46,8 @@ scope_begun parts is none own rest = record {
   plan = is.plan;
   node = is.node;
   listed =
-      subst (AreListed (problem_in (part_of parts)).is_real parts.job.now.plan parts.seams parts.links) (sym none)
-      (All-nil (IsListed (problem_in (part_of parts)).is_real parts.job.now.plan parts.seams parts.links));
+      subst (AreListed (problem_in (part_of parts)).is_real parts.job.0.now.plan parts.seams parts.links) (sym none)
+      (All-nil (IsListed (problem_in (part_of parts)).is_real parts.job.0.now.plan parts.seams parts.links));
   defects = own;
   rest = rest;
 }

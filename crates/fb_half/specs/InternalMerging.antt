@@ -8,9 +8,9 @@ use Rattle.fb_half.specs.Values.{part_of}
 
 -- the part with the right part's matches too, under their new numbers
 abbrev pub joined_part : MergedParts → PartValue
-joined_part m = record (part_of m.parts) {
+joined_part m = record (part_of m.parts.value) {
   matching = record {
-    matches = m.parts.matching.matches ++ map (renamed_match (name_by m.link_names.items) (name_by m.names.items)) m.others.matches;
-    unmatched = m.parts.matching.unmatched;
+    matches = m.parts.value.matching.matches ++ map (renamed_match (name_by m.link_names.items) (name_by m.names.items)) m.others.matches;
+    unmatched = m.parts.value.matching.unmatched;
   };
 }

@@ -10,7 +10,7 @@ use Rattle.fb_half.specs.declared.parts.Parts.{Parts}
 
 abbrev pub part_of : Parts → PartValue
 part_of parts = record {
-  job = parts.job.now;
+  job = parts.job.0.now;
   slot = parts.slot;
   node = parts.node;
   nodes = parts.regions.nodes;
@@ -29,8 +29,8 @@ pub record IsScopeOf (scope : NodeScope) (w : PartValue) : Type 0 where
 -- has all matches to the boundary, and the list has the shot's defects at the part's real vertices.
 pub record HasScope (parts : Parts) : Type 0 where
   pub graph : scope_graph parts.regions.scope ≡ graph_in (part_of parts)
-  pub plan : parts.regions.scope.plan.now ≡ parts.job.now.plan
+  pub plan : parts.regions.scope.plan.now ≡ parts.job.0.now.plan
   pub node : parts.regions.scope.node ≡ parts.node
-  pub listed : AreListed (problem_in (part_of parts)).is_real parts.job.now.plan parts.seams parts.links parts.matching.matches
+  pub listed : AreListed (problem_in (part_of parts)).is_real parts.job.0.now.plan parts.seams parts.links parts.matching.matches
   pub defects : parts.defects.items ≡ shot_defects (part_of parts)
   pub rest : IsAtRest parts.regions

@@ -16,12 +16,14 @@ use fb_laws::{half_opened, part_solved};
 use fb_links::{LinkId, Links};
 use fb_plan::{Job, NodeScope};
 use fb_regions::Regions;
+use std::alloc::Global;
 use std::marker::Model;
 
-/// A node of a plan with a shot, solved as if the plan ended there: a half-solved part with nothing unmatched.
+/// A node of a plan with a shot, solved as if the plan ended there: a half-solved part with nothing unmatched. Its pieces
+/// stand in a box, so that it moves as one pointer.
 #[derive(Drop)]
 pub struct Half<'a> {
-    parts: Parts<'a>,
+    parts: Box<Parts<'a>, Global>,
 }
 
 impl<'a> Model for Half<'a> {
@@ -31,9 +33,9 @@ impl<'a> Model for Half<'a> {
 
     ghost Value = { PartValue };
 
-    ghost view = { λ h. part_of h.parts };
+    ghost view = { λ h. part_of h.parts.value };
 
-    ghost invariant = { λ h. HasScope h.parts × IsPart (part_of h.parts) × (h.parts.matching.unmatched ≡ []) };
+    ghost invariant = { λ h. HasScope h.parts.value × IsPart (part_of h.parts.value) × (h.parts.value.matching.unmatched ≡ []) };
 }
 
 impl<'a> Half<'a> {
@@ -52,19 +54,19 @@ impl<'a> Half<'a> {
     }
 
     /// The part made of these pieces.
-    pub(crate) fn of(parts: Parts<'a>) -> Half<'a>
-        requires scope { HasScope parts }
-        requires part { IsPart (part_of parts) }
-        requires matched { parts.matching.unmatched ≡ [] }
-        ensures { result ≡ part_of parts.entry }
+    pub(crate) fn of(parts: Box<Parts<'a>, Global>) -> Half<'a>
+        requires scope { HasScope parts.value }
+        requires part { IsPart (part_of parts.value) }
+        requires matched { parts.value.matching.unmatched ≡ [] }
+        ensures { result ≡ part_of parts.entry.value }
     {
         Half { parts }
     }
 
-    /// Its pieces.
-    pub fn into_parts(self) -> Parts<'a>
-        ensures value { part_of result ≡ self.entry }
-        ensures scope { HasScope result }
+    /// Its pieces, in their box.
+    pub fn into_parts(self) -> Box<Parts<'a>, Global>
+        ensures value { part_of result.value ≡ self.entry }
+        ensures scope { HasScope result.value }
     {
         let Half { parts } = self;
         parts
@@ -73,14 +75,14 @@ impl<'a> Half<'a> {
     /// The part's room, for another part. Its time is that of the most that the room ever held. Takes no memory.
     pub fn into_spare(self) -> Spare {
         let Half { parts } = self;
-        Spare::of(parts)
+        Spare::of(Box::into_inner(parts))
     }
 
     /// The job.
     pub fn job(&self) -> &'a Job<'a>
         ensures { result.now ≡ self.now.job }
     {
-        self.parts.job
+        self.parts.job.0
     }
 
     /// Which shot of the job.

@@ -49,7 +49,7 @@ use std::alloc::Global;
 /// of what was the right part's, that part's matching and defects, and the room that is left of its dual state and its tables.
 #[derive(Drop)]
 pub(crate) struct MergedParts<'a> {
-    pub(crate) parts: Parts<'a>,
+    pub(crate) parts: Box<Parts<'a>, Global>,
     link_names: Vec<(LinkId, LinkId)>,
     names: Vec<(NodeId, NodeId)>,
     pub(crate) others: Matching,
@@ -101,29 +101,31 @@ fn merged_tables(
 pub(crate) fn merged_parts<'a>(
     alloc: Global,
     scope: &NodeScope<'a>,
-    left: Parts<'a>,
-    right: Parts<'a>,
+    left: Box<Parts<'a>, Global>,
+    right: Box<Parts<'a>, Global>,
 ) -> Result<MergedParts<'a>, NoMemory>
-    requires left_rest { IsAtRest left.regions }
-    requires right_rest { IsAtRest right.regions }
-    requires leaves { AreLeavesApart left.blossoms right.blossoms }
-    requires names { (store : List (Option blossoms.Node)) (links names : List (ℕ × ℕ)) → merged.IsMerged left.blossoms right.blossoms store links names → AreNewNames left.regions.nodes right.regions.nodes (name_by names) }
-    requires parts { AreParts (scope_problem left.regions.scope) (scope_problem right.regions.scope) (scope_problem scope.now) }
-    requires left_vertices { left.regions.scope.graph.now.vertices ≡ scope.now.graph.now.vertices }
-    requires right_vertices { right.regions.scope.graph.now.vertices ≡ scope.now.graph.now.vertices }
-    ensures links { IfOk result (λ m. AreMerged left.entry.links right.entry.links m.link_names.items m.parts.links) }
-    ensures blossoms { IfOk result (λ m. merged.IsMerged left.entry.blossoms right.entry.blossoms m.parts.blossoms m.link_names.items m.names.items) }
-    ensures regions { IfOk result (λ m. m.parts.regions ≡ record left.entry.regions { scope = scope.now; nodes = left.entry.regions.nodes ++ renamed_nodes (name_by m.names.items) right.entry.regions.nodes }) }
-    ensures matching { IfOk result (λ m. m.parts.matching ≡ left.entry.matching) }
-    ensures others { IfOk result (λ m. m.others ≡ right.entry.matching) }
-    ensures defects { IfOk result (λ m. m.parts.defects.items ≡ left.entry.defects.items) }
-    ensures other_defects { IfOk result (λ m. m.other_defects.items ≡ right.entry.defects.items) }
-    ensures left_seams { IfOk result (λ m. (o x : ℕ) → is_in (names_under left.entry.seams o) x ≡ true → is_in (names_under m.parts.seams o) x ≡ true) }
-    ensures right_seams { IfOk result (λ m. (o x : ℕ) → is_in (names_under right.entry.seams o) x ≡ true → is_in (names_under m.parts.seams o) (name_by m.names.items x) ≡ true) }
-    ensures job { IfOk result (λ m. m.parts.job.now ≡ left.entry.job.now) }
-    ensures slot { IfOk result (λ m. m.parts.slot ≡ left.entry.slot) }
-    ensures node { IfOk result (λ m. m.parts.node ≡ scope.now.node) }
+    requires left_rest { IsAtRest left.value.regions }
+    requires right_rest { IsAtRest right.value.regions }
+    requires leaves { AreLeavesApart left.value.blossoms right.value.blossoms }
+    requires names { (store : List (Option blossoms.Node)) (links names : List (ℕ × ℕ)) → merged.IsMerged left.value.blossoms right.value.blossoms store links names → AreNewNames left.value.regions.nodes right.value.regions.nodes (name_by names) }
+    requires parts { AreParts (scope_problem left.value.regions.scope) (scope_problem right.value.regions.scope) (scope_problem scope.now) }
+    requires left_vertices { left.value.regions.scope.graph.now.vertices ≡ scope.now.graph.now.vertices }
+    requires right_vertices { right.value.regions.scope.graph.now.vertices ≡ scope.now.graph.now.vertices }
+    ensures links { IfOk result (λ m. AreMerged left.entry.value.links right.entry.value.links m.link_names.items m.parts.value.links) }
+    ensures blossoms { IfOk result (λ m. merged.IsMerged left.entry.value.blossoms right.entry.value.blossoms m.parts.value.blossoms m.link_names.items m.names.items) }
+    ensures regions { IfOk result (λ m. m.parts.value.regions ≡ record left.entry.value.regions { scope = scope.now; nodes = left.entry.value.regions.nodes ++ renamed_nodes (name_by m.names.items) right.entry.value.regions.nodes }) }
+    ensures matching { IfOk result (λ m. m.parts.value.matching ≡ left.entry.value.matching) }
+    ensures others { IfOk result (λ m. m.others ≡ right.entry.value.matching) }
+    ensures defects { IfOk result (λ m. m.parts.value.defects.items ≡ left.entry.value.defects.items) }
+    ensures other_defects { IfOk result (λ m. m.other_defects.items ≡ right.entry.value.defects.items) }
+    ensures left_seams { IfOk result (λ m. (o x : ℕ) → is_in (names_under left.entry.value.seams o) x ≡ true → is_in (names_under m.parts.value.seams o) x ≡ true) }
+    ensures right_seams { IfOk result (λ m. (o x : ℕ) → is_in (names_under right.entry.value.seams o) x ≡ true → is_in (names_under m.parts.value.seams o) (name_by m.names.items x) ≡ true) }
+    ensures job { IfOk result (λ m. m.parts.value.job.0.now ≡ left.entry.value.job.0.now) }
+    ensures slot { IfOk result (λ m. m.parts.value.slot ≡ left.entry.value.slot) }
+    ensures node { IfOk result (λ m. m.parts.value.node ≡ scope.now.node) }
 {
+    let left = Box::into_inner(left);
+    let right = Box::into_inner(right);
     let tables = merged_tables(
         alloc,
         left.links,
@@ -139,8 +141,9 @@ pub(crate) fn merged_parts<'a>(
         scope,
     )?;
     let seams = Seams::merged(alloc, left.seams, right.seams, &tables.names)?;
-    Ok(MergedParts {
-        parts: Parts {
+    let parts = Box::new(
+        alloc,
+        Parts {
             regions,
             links: tables.links,
             blossoms: tables.blossoms,
@@ -151,6 +154,9 @@ pub(crate) fn merged_parts<'a>(
             slot: left.slot,
             node: scope.node,
         },
+    )?;
+    Ok(MergedParts {
+        parts,
         link_names: tables.link_names,
         names: tables.names,
         others: right.matching,
@@ -395,8 +401,8 @@ fn open_seam(alloc: Global, parts: &mut Parts<'_>) -> Result<(), NoMemory>
     ensures opened { OnOk result (IsOpened (drop (length (parts.old.matching.unmatched ++ met_nodes (part_of parts.old))) parts.new.matching.unmatched) (part_of parts.old) (part_of parts.new)) }
     ensures scope { OnOk result (IsScopeOf parts.new.regions.scope (part_of parts.new)) }
     ensures rest { OnOk result (IsAtRest parts.old.regions → IsAtRest parts.new.regions) }
-    ensures listed { OnOk result (AreListed (problem_in (part_of parts.new)).is_real parts.new.job.now.plan parts.new.seams parts.new.links parts.new.matching.matches) }
-    ensures defects { OnOk result (IsRisingUnion parts.old.defects.items (shot_seam parts.old.job.now parts.old.slot parts.old.node) parts.new.defects.items) }
+    ensures listed { OnOk result (AreListed (problem_in (part_of parts.new)).is_real parts.new.job.0.now.plan parts.new.seams parts.new.links parts.new.matching.matches) }
+    ensures defects { OnOk result (IsRisingUnion parts.old.defects.items (shot_seam parts.old.job.0.now parts.old.slot parts.old.node) parts.new.defects.items) }
 {
     let Parts {
         regions,
@@ -409,6 +415,7 @@ fn open_seam(alloc: Global, parts: &mut Parts<'_>) -> Result<(), NoMemory>
         slot,
         node,
     } = parts;
+    let job = job.0;
     job.keeps();
     job.graph().limits();
     links.keeps();
@@ -423,16 +430,16 @@ fn open_seam(alloc: Global, parts: &mut Parts<'_>) -> Result<(), NoMemory>
 
 /// Takes over the right part's matches, and opens the seam.
 pub(crate) fn complete(alloc: Global, merged: &mut MergedParts<'_>) -> Result<(), NoMemory>
-    requires scope { IsScopeOf merged.old.parts.regions.scope (part_of merged.old.parts) }
-    requires distinct { AreDistinct (listed_names merged.old.parts.matching ++ matched_names (map (renamed_match (name_by merged.old.link_names.items) (name_by merged.old.names.items)) merged.old.others.matches)) }
-    requires beside { AreBesideListed merged.old.parts.seams (joined_part merged.old) }
-    requires defects { IsStrictlyIncreasing merged.old.parts.defects.items }
+    requires scope { IsScopeOf merged.old.parts.value.regions.scope (part_of merged.old.parts.value) }
+    requires distinct { AreDistinct (listed_names merged.old.parts.value.matching ++ matched_names (map (renamed_match (name_by merged.old.link_names.items) (name_by merged.old.names.items)) merged.old.others.matches)) }
+    requires beside { AreBesideListed merged.old.parts.value.seams (joined_part merged.old) }
+    requires defects { IsStrictlyIncreasing merged.old.parts.value.defects.items }
     requires other_defects { IsStrictlyIncreasing merged.old.other_defects.items }
-    ensures opened { OnOk result (IsOpened (drop (length ((joined_part merged.old).matching.unmatched ++ met_nodes (joined_part merged.old))) merged.new.parts.matching.unmatched) (joined_part merged.old) (part_of merged.new.parts)) }
-    ensures scope { OnOk result (IsScopeOf merged.new.parts.regions.scope (part_of merged.new.parts)) }
-    ensures rest { OnOk result (IsAtRest merged.old.parts.regions → IsAtRest merged.new.parts.regions) }
-    ensures listed { OnOk result (AreListed (problem_in (part_of merged.new.parts)).is_real merged.new.parts.job.now.plan merged.new.parts.seams merged.new.parts.links merged.new.parts.matching.matches) }
-    ensures defects { OnOk result (IsRisingUnion (merged.old.parts.defects.items ++ merged.old.other_defects.items) (shot_seam merged.old.parts.job.now merged.old.parts.slot merged.old.parts.node) merged.new.parts.defects.items) }
+    ensures opened { OnOk result (IsOpened (drop (length ((joined_part merged.old).matching.unmatched ++ met_nodes (joined_part merged.old))) merged.new.parts.value.matching.unmatched) (joined_part merged.old) (part_of merged.new.parts.value)) }
+    ensures scope { OnOk result (IsScopeOf merged.new.parts.value.regions.scope (part_of merged.new.parts.value)) }
+    ensures rest { OnOk result (IsAtRest merged.old.parts.value.regions → IsAtRest merged.new.parts.value.regions) }
+    ensures listed { OnOk result (AreListed (problem_in (part_of merged.new.parts.value)).is_real merged.new.parts.value.job.0.now.plan merged.new.parts.value.seams merged.new.parts.value.links merged.new.parts.value.matching.matches) }
+    ensures defects { OnOk result (IsRisingUnion (merged.old.parts.value.defects.items ++ merged.old.other_defects.items) (shot_seam merged.old.parts.value.job.0.now merged.old.parts.value.slot merged.old.parts.value.node) merged.new.parts.value.defects.items) }
 {
     let MergedParts {
         parts,
@@ -442,6 +449,7 @@ pub(crate) fn complete(alloc: Global, merged: &mut MergedParts<'_>) -> Result<()
         other_defects,
         ..
     } = merged;
+    let parts = &mut **parts;
     add_rising(alloc, &mut parts.defects, other_defects)?;
     take_matches(
         alloc,

@@ -1,11 +1,10 @@
-ghost use Rattle.std.specs.Prelude.{◌≡◌, ◌<◌, [], length, IfOk};
+ghost use Rattle.std.specs.Prelude.{◌≡◌, ◌≢◌, ◌<◌, ◌++◌, [], length, option_to_list, IfOk, IsNone};
 ghost use Rattle.fb_half.specs.InternalBeginnings.{empty_part};
 ghost use Rattle.fb_half.specs.Values.{IsScopeOf, part_of};
 ghost use Rattle.fb_regions.specs.Paces.{IsAtRest};
 
-use crate::both::both;
 use crate::matching::Matching;
-use crate::parts::Parts;
+use crate::parts::{PartJob, Parts};
 use crate::seams::Seams;
 use fb_blossoms::Blossoms;
 use fb_graph::NoMemory;
@@ -79,15 +78,6 @@ impl Model for EmptyTables {
 }
 
 impl EmptyTables {
-    /// New tables.
-    pub(crate) fn new(alloc: Global) -> Result<EmptyTables, NoMemory> {
-        Ok(EmptyTables {
-            links: Links::new(alloc)?,
-            blossoms: Blossoms::new(alloc)?,
-            seams: Seams::new(alloc),
-        })
-    }
-
     /// These tables, and a new index. Takes no memory.
     pub(crate) fn on(alloc: Global, links: Links, blossoms: Blossoms) -> EmptyTables
         requires links { links ≡ [] }
@@ -101,6 +91,17 @@ impl EmptyTables {
     }
 }
 
+/// The last of the spares, which it loses, if there is a defect that needs room.
+pub(crate) fn spare_for(spares: &mut Vec<Spare>, defects: &[u32]) -> Option<Spare>
+    ensures none { defects.now ≡ [] → IsNone result × (spares.new.items ≡ spares.old.items) }
+    ensures last { defects.now ≢ [] → (spares.old.items ≡ spares.new.items ++ option_to_list result) × (IsNone result → spares.old.items ≡ []) }
+{
+    if defects.is_empty() {
+        return None;
+    }
+    spares.pop()
+}
+
 /// The pieces of a part without nodes, in the spare's room if there is one, else in new room.
 pub(crate) fn empty_parts<'a>(
     alloc: Global,
@@ -108,11 +109,11 @@ pub(crate) fn empty_parts<'a>(
     slot: u32,
     node: u32,
     spare: Option<Spare>,
-) -> Result<Parts<'a>, NoMemory>
+) -> Result<Box<Parts<'a>, Global>, NoMemory>
     requires slot { slot < length job.now.shots }
-    ensures value { IfOk result (λ p. part_of p ≡ empty_part job.now slot node) }
-    ensures scope { IfOk result (λ p. IsScopeOf p.regions.scope (part_of p)) }
-    ensures rest { IfOk result (λ p. IsAtRest p.regions) }
+    ensures value { IfOk result (λ p. part_of p.value ≡ empty_part job.now slot node) }
+    ensures scope { IfOk result (λ p. IsScopeOf p.value.regions.scope (part_of p.value)) }
+    ensures rest { IfOk result (λ p. IsAtRest p.value.regions) }
 {
     match spare {
         Some(spare) => parts_on(alloc, spare, job, slot, node),
@@ -126,25 +127,27 @@ fn new_parts<'a>(
     job: &'a Job<'a>,
     slot: u32,
     node: u32,
-) -> Result<Parts<'a>, NoMemory>
+) -> Result<Box<Parts<'a>, Global>, NoMemory>
     requires slot { slot < length job.now.shots }
-    ensures value { IfOk result (λ p. part_of p ≡ empty_part job.now slot node) }
-    ensures scope { IfOk result (λ p. IsScopeOf p.regions.scope (part_of p)) }
-    ensures rest { IfOk result (λ p. IsAtRest p.regions) }
+    ensures value { IfOk result (λ p. part_of p.value ≡ empty_part job.now slot node) }
+    ensures scope { IfOk result (λ p. IsScopeOf p.value.regions.scope (part_of p.value)) }
+    ensures rest { IfOk result (λ p. IsAtRest p.value.regions) }
 {
-    let tables = EmptyTables::new(alloc)?;
-    let (regions, tables) = both(Regions::new(alloc, &job.scope(slot, node)), tables)?;
-    Ok(Parts {
-        regions,
-        links: tables.links,
-        blossoms: tables.blossoms,
-        matching: Matching::new(alloc),
-        seams: tables.seams,
-        defects: Vec::new(alloc),
-        job,
-        slot,
-        node,
-    })
+    let parts = Box::new(
+        alloc,
+        Parts {
+            regions: Regions::new(alloc, &job.scope(slot, node))?,
+            links: Links::new(alloc)?,
+            blossoms: Blossoms::new(alloc)?,
+            matching: Matching::new(alloc),
+            seams: Seams::new(alloc),
+            defects: Vec::new(alloc),
+            job: PartJob(job),
+            slot,
+            node,
+        },
+    )?;
+    Ok(parts)
 }
 
 /// The pieces of a part without nodes, in the spare's room.
@@ -154,21 +157,25 @@ fn parts_on<'a>(
     job: &'a Job<'a>,
     slot: u32,
     node: u32,
-) -> Result<Parts<'a>, NoMemory>
+) -> Result<Box<Parts<'a>, Global>, NoMemory>
     requires slot { slot < length job.now.shots }
-    ensures value { IfOk result (λ p. part_of p ≡ empty_part job.now slot node) }
-    ensures scope { IfOk result (λ p. IsScopeOf p.regions.scope (part_of p)) }
-    ensures rest { IfOk result (λ p. IsAtRest p.regions) }
+    ensures value { IfOk result (λ p. part_of p.value ≡ empty_part job.now slot node) }
+    ensures scope { IfOk result (λ p. IsScopeOf p.value.regions.scope (part_of p.value)) }
+    ensures rest { IfOk result (λ p. IsAtRest p.value.regions) }
 {
-    Ok(Parts {
-        regions: Regions::on(alloc, spare.regions, &job.scope(slot, node))?,
-        links: spare.links,
-        blossoms: spare.blossoms,
-        matching: spare.matching,
-        seams: spare.seams,
-        defects: Vec::new(alloc),
-        job,
-        slot,
-        node,
-    })
+    let parts = Box::new(
+        alloc,
+        Parts {
+            regions: Regions::on(alloc, spare.regions, &job.scope(slot, node))?,
+            links: spare.links,
+            blossoms: spare.blossoms,
+            matching: spare.matching,
+            seams: spare.seams,
+            defects: Vec::new(alloc),
+            job: PartJob(job),
+            slot,
+            node,
+        },
+    )?;
+    Ok(parts)
 }

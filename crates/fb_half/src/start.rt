@@ -110,14 +110,14 @@ pub(crate) fn add_leaf(
 /// Makes each of these defects a node of a part without nodes, none of them matched.
 pub(crate) fn start(alloc: Global, parts: &mut Parts<'_>, own: &[u32]) -> Result<(), NoMemory>
     requires scope { IsScopeOf parts.old.regions.scope (part_of parts.old) }
-    requires empty { part_of parts.old ≡ empty_part parts.old.job.now parts.old.slot parts.old.node }
+    requires empty { part_of parts.old ≡ empty_part parts.old.job.0.now parts.old.slot parts.old.node }
     requires distinct { AreDistinct own.now }
-    requires real { All (λ v. (problem_at parts.old.job.now.graph parts.old.job.now.plan parts.old.node no_shot).is_real v ≡ true) own.now }
+    requires real { All (λ v. (problem_at parts.old.job.0.now.graph parts.old.job.0.now.plan parts.old.node no_shot).is_real v ≡ true) own.now }
     ensures started { OnOk result (IsStarted own.now parts.new.regions.nodes parts.new.blossoms parts.new.matching) }
     ensures scope { OnOk result (IsScopeOf parts.new.regions.scope (part_of parts.new)) }
     ensures rest { OnOk result (IsAtRest parts.old.regions → IsAtRest parts.new.regions) }
     ensures links { OnOk result (parts.new.links ≡ []) }
-    ensures job { OnOk result (parts.new.job.now ≡ parts.old.job.now) }
+    ensures job { OnOk result (parts.new.job.0.now ≡ parts.old.job.0.now) }
     ensures slot { OnOk result (parts.new.slot ≡ parts.old.slot) }
     ensures node { OnOk result (parts.new.node ≡ parts.old.node) }
 {

@@ -11,7 +11,7 @@ use crate::matching::Matching;
 use crate::merging::{MergedParts, complete, merged_parts};
 use crate::parts::Parts;
 use crate::shifting::NodeDefects;
-use crate::spare::{Spare, empty_parts};
+use crate::spare::{Spare, empty_parts, spare_for};
 use crate::start::{defects_at, start};
 use fb_blossoms::Blossoms;
 use fb_graph::{NoMemory, Scope};
@@ -23,10 +23,10 @@ use std::alloc::Global;
 use std::marker::Model;
 
 /// A node of a plan with a shot, half solved: its dual state, its blossoms, its links, and which of its nodes are
-/// matched. Each outer node is matched once or is unmatched.
+/// matched. Each outer node is matched once or is unmatched. Its pieces stand in a box, so that it moves as one pointer.
 #[derive(Drop)]
 pub struct Work<'a> {
-    parts: Parts<'a>,
+    parts: Box<Parts<'a>, Global>,
 }
 
 impl<'a> Model for Work<'a> {
@@ -35,9 +35,9 @@ impl<'a> Model for Work<'a> {
 
     ghost Value = { PartValue };
 
-    ghost view = { λ w. part_of w.parts };
+    ghost view = { λ w. part_of w.parts.value };
 
-    ghost invariant = { λ w. HasScope w.parts × IsPart (part_of w.parts) };
+    ghost invariant = { λ w. HasScope w.parts.value × IsPart (part_of w.parts.value) };
 }
 
 impl<'a> Work<'a> {
@@ -49,18 +49,18 @@ impl<'a> Work<'a> {
     }
 
     /// The part made of these pieces.
-    pub fn from_parts(parts: Parts<'a>) -> Work<'a>
-        requires scope { HasScope parts }
-        requires part { IsPart (part_of parts) }
-        ensures { result ≡ part_of parts.entry }
+    pub fn from_parts(parts: Box<Parts<'a>, Global>) -> Work<'a>
+        requires scope { HasScope parts.value }
+        requires part { IsPart (part_of parts.value) }
+        ensures { result ≡ part_of parts.entry.value }
     {
         Work { parts }
     }
 
-    /// Its pieces.
-    pub fn into_parts(self) -> Parts<'a>
-        ensures value { part_of result ≡ self.entry }
-        ensures scope { HasScope result }
+    /// Its pieces, in their box.
+    pub fn into_parts(self) -> Box<Parts<'a>, Global>
+        ensures value { part_of result.value ≡ self.entry }
+        ensures scope { HasScope result.value }
     {
         let Work { parts } = self;
         parts
@@ -79,7 +79,7 @@ impl<'a> Work<'a> {
     pub fn job(&self) -> &'a Job<'a>
         ensures { result.now ≡ self.now.job }
     {
-        self.parts.job
+        self.parts.job.0
     }
 
     /// Which shot of the job.
@@ -159,17 +159,18 @@ impl<'a> Work<'a> {
         requires unit { node < job.now.plan.units }
         ensures { IfOk result (λ w. IsBegun job.now slot node w) }
     {
-        Work::begin_on(alloc, job, slot, node, None)
+        Work::begin_on(alloc, job, slot, node, &mut Vec::new(alloc))
     }
 
-    /// The same as `begin`, in the room of a part that is no longer used, if there is one. With that of a part of the same
-    /// graph it takes no time for the graph's vertices.
+    /// The same as `begin`, in the last of the spares, which are the rooms of parts that are no longer used. With that of a part
+    /// of the same graph it takes no time for the graph's vertices. A unit without a shifted defect leaves the spares as they
+    /// are: its new room takes no memory but the box of its pieces.
     pub fn begin_on(
         alloc: Global,
         job: &'a Job<'a>,
         slot: u32,
         node: u32,
-        spare: Option<Spare>,
+        spares: &mut Vec<Spare>,
     ) -> Result<Work<'a>, NoMemory>
         requires slot { slot < length job.now.shots }
         requires unit { node < job.now.plan.units }
@@ -178,15 +179,12 @@ impl<'a> Work<'a> {
         job.keeps();
         let own = defects_at(alloc, job, slot, node)?;
         let NodeDefects { given, shifted } = own;
+        let spare = spare_for(spares, &shifted);
         let mut parts = empty_parts(alloc, job, slot, node, spare)?;
-        start(alloc, &mut parts, &shifted)?;
+        start(alloc, &mut *parts, &shifted)?;
         state_begins();
-        Ok(Work {
-            parts: Parts {
-                defects: given,
-                ..parts
-            },
-        })
+        parts.defects = given;
+        Ok(Work { parts })
     }
 
     /// The part of a fusion, made of its children's solved parts (Wu and Zhong 2023): all their cuts, and all their links

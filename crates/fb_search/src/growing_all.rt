@@ -33,23 +33,16 @@ pub(crate) fn grow_from<'a, L: Ledger>(
     ensures step { IfOk result (λ _. steps.new ≡ steps.old + length roots.now) }
     ensures kept { OnErr result (steps.new ≡ steps.old) }
 {
-    let Scratch {
-        watch,
-        forest,
-        matched,
-    } = scratch;
-    let forest = forest.restart(alloc, roots)?;
+    let matched = scratch.matched().saturating_add(roots.len() as u64);
+    let (watch, mut forest) = scratch.into_pieces();
+    forest.restart(alloc, roots)?;
     let growing = Growing::begin(work, roots, forest, watch);
     let grown = grow_through::<Brand>(alloc, growing, Blank::new(1))?;
-    let (work, forest, watch) = grown.finish();
+    let (work, forest, watch) = grown.finish(alloc)?;
+    let scratch = Scratch::of(alloc, watch, forest, matched)?;
     for _root in 0..roots.len() {
         steps.tick();
     }
-    let scratch = Scratch {
-        watch,
-        forest,
-        matched: matched.saturating_add(roots.len() as u64),
-    };
     Ok((work, scratch))
 }
 

@@ -5,13 +5,14 @@ ghost use Rattle.fb_graph.specs.Certificate.{AreDistinct};
 ghost use Rattle.fb_graph.specs.Dual.{is_live};
 ghost use Rattle.fb_graph.specs.Parity.{is_in};
 ghost use Rattle.fb_half.specs.Parts.{problem_in};
+ghost use Rattle.fb_half.specs.Values.{HasScope, part_of};
 ghost use Rattle.fb_trees.specs.Forests.{bare_trees};
 ghost use Rattle.fb_search.specs.InternalGrowingEnds.{WatchesEach};
 ghost use Rattle.fb_search.specs.InternalGrowth.{HasBegunAt};
 
 use crate::growing::Growing;
 use fb_graph::Scope;
-use fb_half::Work;
+use fb_half::{Parts, Work};
 use fb_obstacles::{Watch, watch_node};
 use fb_regions::{NodeId, Regions};
 use fb_trees::{Forest, set_paces};
@@ -34,7 +35,7 @@ impl<'a> Growing<'a> {
         work.keeps();
         let mut watch = watch;
         watch.clear();
-        let mut parts = work.into_parts();
+        let mut parts = pieces_of(work);
         let scope = *parts.regions.scope();
         scope.limits();
         watch_nodes(&mut watch, &parts.regions, roots);
@@ -46,6 +47,14 @@ impl<'a> Growing<'a> {
             watch,
         }
     }
+}
+
+/// The pieces of the part, out of their box.
+fn pieces_of<'a>(work: Work<'a>) -> Parts<'a>
+    ensures value { part_of result ≡ work.entry }
+    ensures scope { HasScope result }
+{
+    Box::into_inner(work.into_parts())
 }
 
 /// Watches the edges at these nodes.

@@ -3,6 +3,8 @@
 ghost use Rattle.std.specs.Prelude.{ℕ, ◌≡◌, [], true, All, length, map, IfOk, OnOk};
 ghost use Rattle.fb_graph.specs.Dual.{is_live};
 ghost use Rattle.fb_graph.specs.Parity.{is_in};
+ghost use Rattle.fb_half.specs.Parts.{IsPart};
+ghost use Rattle.fb_half.specs.Values.{HasScope, part_of};
 ghost use Rattle.fb_laws.specs.LinkNumbers.{links_dropped};
 ghost use Rattle.fb_laws.specs.Trees.{minus_names};
 ghost use Rattle.fb_trees.specs.Branches.{Grown};
@@ -21,7 +23,7 @@ use crate::growing::{Growing, GrowingPieces};
 use crate::growing_meets::Met;
 use crate::growing_pieces::into_growing;
 use fb_graph::{NoMemory, Scope};
-use fb_half::{Match, Matching, Work, far_owner};
+use fb_half::{Match, Matching, Parts, Work, far_owner};
 use fb_links::Links;
 use fb_obstacles::{Watch, watch_node};
 use fb_regions::{NodeId, Regions};
@@ -50,17 +52,17 @@ impl<'a> Growing<'a> {
     }
 
     /// The part once no tree is left, and the forest and the watch that were lent.
-    pub(crate) fn finish(self) -> (Work<'a>, Forest, Watch)
+    pub(crate) fn finish(self, alloc: Global) -> Result<(Work<'a>, Forest, Watch), NoMemory>
         requires { trees_in self.forest ≡ [] }
-        ensures part { result.0 ≡ self.entry.part }
-        ensures room { result.2.edge_count ≡ self.entry.watched.edge_count }
+        ensures part { IfOk result (λ r. r.0 ≡ self.entry.part) }
+        ensures room { IfOk result (λ r. r.2.edge_count ≡ self.entry.watched.edge_count) }
     {
         let Growing {
             parts,
             forest,
             watch,
         } = self;
-        (Work::from_parts(parts), forest, watch)
+        Ok((boxed(alloc, parts)?, forest, watch))
     }
 
     /// The plus node from which the edge leads to the boundary.
@@ -75,6 +77,16 @@ impl<'a> Growing<'a> {
             (None, None) => unreachable!(),
         }
     }
+}
+
+/// The part of these pieces, which it puts into a box.
+fn boxed<'a>(alloc: Global, parts: Parts<'a>) -> Result<Work<'a>, NoMemory>
+    requires scope { HasScope parts }
+    requires part { IsPart (part_of parts) }
+    ensures { IfOk result (λ work. work ≡ part_of parts.entry) }
+{
+    let parts = Box::new(alloc, parts)?;
+    Ok(Work::from_parts(parts))
 }
 
 /// Matches the plus node over the edge to the boundary, and the other nodes of its tree by links of the tree.

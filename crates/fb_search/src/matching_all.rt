@@ -64,7 +64,7 @@ fn match_nearest<'a, L: Ledger>(
     work.keeps();
     let mut parts = work.into_parts();
     let mut scratch = scratch;
-    let done = match_each_near(alloc, &mut parts, &mut scratch, roots, steps);
+    let done = match_each_near(alloc, &mut *parts, &mut scratch, roots, steps);
     let (_done, (parts, scratch)) = both(done, (parts, scratch))?;
     Ok((Work::from_parts(parts), scratch))
 }

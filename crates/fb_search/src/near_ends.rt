@@ -146,7 +146,7 @@ pub(crate) fn match_one_near<'a>(
 {
     work.keeps();
     let mut parts = work.into_parts();
-    let near = match_near(alloc, &mut parts, root);
+    let near = match_near(alloc, &mut *parts, root);
     let (is_matched, (parts, scratch)) = both(near, (parts, scratch))?;
     Ok((is_matched, Work::from_parts(parts), scratch))
 }

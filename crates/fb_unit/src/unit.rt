@@ -28,18 +28,27 @@ pub fn solve_unit<'a, L: Ledger>(
         × (steps.new ≤ steps.old + length (own_defects half))) }
 {
     let scratch = Scratch::new(alloc, &Whole(job.graph()))?;
-    let (half, _scratch) = solve_unit_from(alloc, job, slot, node, None, scratch, steps)?;
+    let (half, _scratch) = solve_unit_from(
+        alloc,
+        job,
+        slot,
+        node,
+        &mut Vec::new(alloc),
+        scratch,
+        steps,
+    )?;
     Ok(half)
 }
 
-/// The same as `solve_unit`, in the room of a part that is no longer used, if there is one, and with scratch space that is
-/// lent and returned, so that one serves many parts of a graph.
+/// The same as `solve_unit`, in the last of the spares, which are the rooms of parts that are no longer used, and with scratch
+/// space that is lent and returned, so that one serves many parts of a graph. A unit without a shifted defect leaves the
+/// spares as they are.
 pub fn solve_unit_from<'a, L: Ledger>(
     alloc: Global,
     job: &'a Job<'a>,
     slot: u32,
     node: u32,
-    spare: Option<Spare>,
+    spares: &mut Vec<Spare>,
     scratch: Scratch,
     steps: &mut Steps<L>,
 ) -> Result<(Half<'a>, Scratch), NoMemory>
@@ -52,7 +61,7 @@ pub fn solve_unit_from<'a, L: Ledger>(
     ensures steps { IfOk result (λ r. (length (own_defects r.0) + 2 * steps.old ≤ 2 * steps.new)
         × (steps.new ≤ steps.old + length (own_defects r.0))) }
 {
-    let (work, roots) = begin(alloc, job, slot, node, spare)?;
+    let (work, roots) = begin(alloc, job, slot, node, spares)?;
     let (work, scratch) = match_all_from(alloc, work, &roots, scratch, steps)?;
     Ok((work.close(), scratch))
 }
@@ -63,14 +72,14 @@ fn begin<'a>(
     job: &'a Job<'a>,
     slot: u32,
     node: u32,
-    spare: Option<Spare>,
+    spares: &mut Vec<Spare>,
 ) -> Result<(Work<'a>, Vec<NodeId>), NoMemory>
     requires slot { slot < length job.now.shots }
     requires unit { node < job.now.plan.units }
     ensures begun { IfOk result (λ r. IsBegun job.now slot node r.0) }
     ensures roots { IfOk result (λ r. r.1.items ≡ r.0.matching.unmatched) }
 {
-    let work = Work::begin_on(alloc, job, slot, node, spare)?;
+    let work = Work::begin_on(alloc, job, slot, node, spares)?;
     let roots = Vec::from_slice(alloc, work.unmatched())?;
     Ok((work, roots))
 }

@@ -37,8 +37,8 @@ pub add_leaves-requires-clause-real : goal.add_leaves-requires-clause-real
 add_leaves-requires-clause-real c =
     subst (λ g. All (λ v. (problem_at g c.args.parts.now.regions.scope.plan.now c.args.parts.now.regions.scope.node no_shot).is_real v ≡ true) c.deref-3.result.now) (sym c.requires.scope.graph)
     (subst (λ t. All (λ v. (problem_at (graph_in (part_of c.args.parts.now)) t c.args.parts.now.regions.scope.node no_shot).is_real v ≡ true) c.deref-3.result.now) (sym c.requires.scope.plan)
-    (subst (λ n. All (λ v. (problem_at (graph_in (part_of c.args.parts.now)) c.args.parts.now.job.now.plan n no_shot).is_real v ≡ true) c.deref-3.result.now) (sym c.requires.scope.node)
-    (subst (All (λ v. (problem_at (graph_in (part_of c.args.parts.now)) c.args.parts.now.job.now.plan c.args.parts.now.node no_shot).is_real v ≡ true))
+    (subst (λ n. All (λ v. (problem_at (graph_in (part_of c.args.parts.now)) c.args.parts.now.job.0.now.plan n no_shot).is_real v ≡ true) c.deref-3.result.now) (sym c.requires.scope.node)
+    (subst (All (λ v. (problem_at (graph_in (part_of c.args.parts.now)) c.args.parts.now.job.0.now.plan c.args.parts.now.node no_shot).is_real v ≡ true))
     (sym (c.deref-3.ensures.value ∙ c.in_ok-own.ensures.shifted))
     (seam_real (part_of c.args.parts.now) c.keeps.ensures (subst IsGraph c.graph.ensures c.limits.ensures) c.requires.beside.beside))))
 

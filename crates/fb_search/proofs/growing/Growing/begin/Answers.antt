@@ -15,31 +15,31 @@ use Rattle.fb_search.proofs.growing.Growing.begin.Goals as goal
 
 pub watch_nodes-requires-clause-live : goal.watch_nodes-requires-clause-live
 watch_nodes-requires-clause-live c =
-    let part = part_of c.into_parts-parts.result in
-    let are = subst IsPart (sym c.into_parts-parts.ensures.value) c.keeps.ensures in
+    let part = part_of c.pieces_of-parts.result in
+    let are = subst IsPart (sym c.pieces_of-parts.ensures.value) c.keeps.ensures in
     let unmatched : All (λ n. is_in part.matching.unmatched n ≡ true) c.args.roots.now =
-    subst (λ w. All (λ n. is_in w.matching.unmatched n ≡ true) c.args.roots.now) (sym c.into_parts-parts.ensures.value) c.requires.unmatched in
+    subst (λ w. All (λ n. is_in w.matching.unmatched n ≡ true) c.args.roots.now) (sym c.pieces_of-parts.ensures.value) c.requires.unmatched in
     λ k d less. are.state.names.live (get_or c.args.roots.now k d) (unmatched k d less)
 
 pub watch_nodes-requires-clause-room : goal.watch_nodes-requires-clause-room
 watch_nodes-requires-clause-room c =
     ap (λ w. w.edge_count) c.clear.ensures ∙ c.requires.room
-    ∙ sym (ap (λ w. length (problem_in w).edges) c.into_parts-parts.ensures.value)
-    ∙ sym (ap (λ g. length g.edges) c.into_parts-parts.ensures.scope.graph)
+    ∙ sym (ap (λ w. length (problem_in w).edges) c.pieces_of-parts.ensures.value)
+    ∙ sym (ap (λ g. length g.edges) c.pieces_of-parts.ensures.scope.graph)
 
 pub invariant_of-result : goal.invariant_of-result
 invariant_of-result c =
-    let parts = c.into_parts-parts.result in
+    let parts = c.pieces_of-parts.result in
     let part = part_of parts in
     let old = parts.regions in
     let new = c.set_paces.new.regions in
-    let scope = c.into_parts-parts.ensures.scope in
+    let scope = c.pieces_of-parts.ensures.scope in
     let graph = ap scope_graph c.scope.ensures ∙ scope.graph in
     let plan = ap (λ s. s.plan.now) c.scope.ensures ∙ scope.plan in
     let node = ap (λ s. s.node) c.scope.ensures ∙ scope.node in
-    let are = subst IsPart (sym c.into_parts-parts.ensures.value) c.keeps.ensures in
+    let are = subst IsPart (sym c.pieces_of-parts.ensures.value) c.keeps.ensures in
     let unmatched : All (λ n. is_in part.matching.unmatched n ≡ true) c.args.roots.now =
-    subst (λ w. All (λ n. is_in w.matching.unmatched n ≡ true) c.args.roots.now) (sym c.into_parts-parts.ensures.value) c.requires.unmatched in
+    subst (λ w. All (λ n. is_in w.matching.unmatched n ≡ true) c.args.roots.now) (sym c.pieces_of-parts.ensures.value) c.requires.unmatched in
     let live : All (λ n. is_live old.nodes n ≡ true) c.args.roots.now =
     λ k d less. are.state.names.live (get_or c.args.roots.now k d) (unmatched k d less) in
     let paces =
@@ -56,7 +56,7 @@ invariant_of-result c =
           (growing_begun c.args.roots.now part c.clear.new.self c.watch_nodes.new.watch c.requires.distinct unmatched are
           (kept_limits part (scope_graph c.scope.result.now) c.scope.result.now.plan.now c.scope.result.now.node graph plan node c.limits.ensures)
           c.keeps-2.ensures.within
-          (ap (λ w. w.edge_count) c.clear.ensures ∙ c.requires.room ∙ sym (ap (λ w. length (problem_in w).edges) c.into_parts-parts.ensures.value))
+          (ap (λ w. w.edge_count) c.clear.ensures ∙ c.requires.room ∙ sym (ap (λ w. length (problem_in w).edges) c.pieces_of-parts.ensures.value))
           (ap (λ w. w.edges) c.clear.ensures)
           (kept_each part (scope_graph old.scope) old.scope.plan.now old.scope.node
           part.nodes c.args.roots.now c.clear.new.self c.watch_nodes.new.watch scope.graph c.watch_nodes.ensures))),
@@ -65,6 +65,6 @@ invariant_of-result c =
 pub returns : goal.returns
 returns c = record {
   part =
-      ap (λ r. record (part_of c.into_parts-parts.result) { nodes = r.nodes }) c.set_paces.ensures.same ∙ c.into_parts-parts.ensures.value;
+      ap (λ r. record (part_of c.pieces_of-parts.result) { nodes = r.nodes }) c.set_paces.ensures.same ∙ c.pieces_of-parts.ensures.value;
   forest = c.requires.forest;
 }
