@@ -25,7 +25,7 @@ def events_of(text, shots, window):
 
 
 # One more worker takes part in a window for each so many defects, unless each unit has a worker.
-DEFECTS_PER_WORKER = 256
+DEFECTS_PER_WORKER = 384
 
 
 def seat_count(workers, units, defects):

@@ -148,7 +148,7 @@ fn history_of<G: Gate, R: Threads + Sync>(
     defects: u32,
     gate: &G,
 ) -> Result<Vec<Entry>, Stopped> {
-    let line = Line::new(alloc, vec![in alloc; 2; 202]?.as_slice(), &[101])?;
+    let line = Line::new(alloc, vec![in alloc; 2; 302]?.as_slice(), &[151])?;
     let mut all = Vec::new(alloc);
     for v in 0..defects {
         all.push(v + 1)?;
@@ -163,15 +163,15 @@ fn history_of<G: Gate, R: Threads + Sync>(
     Ok(window.history)
 }
 
-/// With 255 defects in all, one worker does the six units of a window.
+/// With 381 defects in all, one worker does the six units of a window.
 pub fn have_one_worker<R: Threads + Sync>(rt: &R, alloc: Global) -> Result<(), Stopped> {
-    let history = history_of(rt, alloc, 85, &OpenGate)?;
+    let history = history_of(rt, alloc, 127, &OpenGate)?;
     Stopped::unless(history.iter().all(|entry| entry.worker == 0), "the only worker of a window")
 }
 
-/// With 258 defects in all, two of four workers do the six units of a window.
+/// With 384 defects in all, two of four workers do the six units of a window.
 pub fn have_two_workers<R: Threads + Sync>(rt: &R, alloc: Global) -> Result<(), Stopped> {
-    let history = history_of(rt, alloc, 86, &Awaiting::new())?;
+    let history = history_of(rt, alloc, 128, &Awaiting::new())?;
     let [mut first, mut second] = [false, false];
     for entry in &history {
         Stopped::unless(entry.worker < 2, "a third worker of a window")?;

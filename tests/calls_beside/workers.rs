@@ -296,7 +296,7 @@ impl Pair {
 pub const SLOTS: u32 = 500;
 
 /// How many defects each of many shots has: all together they are worth 64 workers and more.
-const DEFECTS: u32 = 33;
+const DEFECTS: u32 = 49;
 
 /// Whether the piece of each slot's root lists its three nodes.
 pub fn are_whole(roots: &[Listed<'_>]) -> bool {
@@ -437,10 +437,10 @@ fn seats_of<R: Threads + Sync>(rt: &R, alloc: Global, slots: u32, defects: u32) 
     Ok(seats)
 }
 
-/// Of eight workers as many take part as the defects are worth, one more for each 256; and one for each unit if there are
+/// Of eight workers as many take part as the defects are worth, one more for each 384; and one for each unit if there are
 /// no more units than workers, whatever the defects.
 pub fn are_as_many_as_defects_are_worth<R: Threads + Sync>(rt: &R, alloc: Global) -> Result<(), Stopped> {
-    let known = [(SLOTS, 0, 1), (255, 1, 1), (256, 1, 2), (5, 51, 1), (5, 52, 2), (5, 153, 3), (64, 1_000, 8)];
+    let known = [(SLOTS, 0, 1), (383, 1, 1), (384, 1, 2), (5, 76, 1), (5, 77, 2), (5, 154, 3), (64, 1_000, 8)];
     for (slots, defects, seats) in known {
         Stopped::unless(seats_of(rt, alloc, slots, defects)? == seats, "the workers that defects are worth")?;
     }

@@ -35,7 +35,7 @@ defect_count shots = sum_by (λ shot. length shot.defects) shots
 
 -- the number of defects for which one more worker takes part
 abbrev pub defects_per_worker : ℕ
-defects_per_worker = 256
+defects_per_worker = 384
 
 -- How many of these workers take part at this number of units in all slots and of defects in all shots: one for each
 -- unit if they suffice; else one, and one more for each `defects_per_worker` defects, as far as there are workers. At

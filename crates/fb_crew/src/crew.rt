@@ -197,7 +197,7 @@ fn work_each<
 
 /// The number of defects of a job for which one more worker is used, so that a job of few defects starts no threads that
 /// cost more than they save.
-const DEFECTS_PER_WORKER: u64 = 256;
+const DEFECTS_PER_WORKER: u64 = 384;
 
 /// The number of defects that the shots list, or `u64::MAX` if they list more.
 fn count_defects(shots: &[Shot]) -> u64
@@ -271,7 +271,7 @@ fn run_all<
 
 /// Does all items of the job by this number of workers, each on a thread of its own but one, which is on the calling
 /// thread. Nobody waits for another one. A job of fewer units in all its slots has fewer workers, one for each; and one of
-/// more units has no more than its defects are worth: one, and one more for each 256 defects. A worker that runs out of
+/// more units has no more than its defects are worth: one, and one more for each 384 defects. A worker that runs out of
 /// memory leaves its item and ends; the others go on until no unit is left. Who gave an item by the history has passed
 /// the gate with it.
 pub fn work_all<P: Piece + Send + Sync, T: Send + Drop, H: Hands<P, T>, G: Gate, R: Threads + Sync>(
