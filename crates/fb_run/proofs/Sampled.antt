@@ -2,11 +2,11 @@
 use Rattle.std.proofs.Common.{◌≡◌, ℕ, zero, suc, ◌+◌, ◌*◌, ℤ, ◌+ℤ◌, List, [], ◌∷◌, ◌++◌, length, sym, ap, subst, ◌∙◌, arith}
 use Rattle.std.proofs.Math.Nat.{add-mul, suc-mul}
 use Rattle.std.proofs.lemmas.List.Sums.{sum_by-append}
-use Rattle.fb_crew.specs.Windows.{AreRows}
+use Rattle.fb_crew.specs.Windows.{AreRows, defect_count}
 use Rattle.fb_gen.specs.Drawing.{hits_of, next_state, shot_from, state_after}
 use Rattle.fb_graph.specs.Limits.{DecodingGraph, ShotValue}
 use Rattle.fb_graph.specs.declared.parts.Row.{Row}
-use Rattle.fb_run.specs.Samples.{HaveSums, defects_in, drawn_shots, weights_in}
+use Rattle.fb_run.specs.Samples.{HaveSums, drawn_shots, weights_in}
 use Rattle.fb_run.proofs.LowWeights.{weights_in-append}
 
 -- ---- draws
@@ -73,16 +73,16 @@ module _ (g : DecodingGraph) (rate : ℕ) where
   pub more_sums : (x state a b defects : ℕ) (weight : ℤ) (more_defects : ℕ) (more_weight : ℤ) (more : List ShotValue) (added : List Row)
       → HaveSums g rate x a defects weight → state ≡ state_after x (a * length g.edges)
       → more ≡ drawn_shots g rate state b → AreRows g more added
-      → more_defects ≡ defects + defects_in more → more_weight ≡ weight +ℤ weights_in added
+      → more_defects ≡ defects + defect_count more → more_weight ≡ weight +ℤ weights_in added
       → HaveSums g rate x (a + b) more_defects more_weight
   more_sums x state a b defects weight more_defects more_weight more added sums at next decoded defects_is weight_is = record {
     rows = sums.rows ++ added;
     decoded = subst (λ shots. AreRows g shots (sums.rows ++ added)) (sym all)
         (rows_append (drawn_shots g rate x a) more sums.rows added sums.decoded decoded);
     defects_of = defects_is
-        ∙ ap (λ n. n + defects_in more) sums.defects_of
+        ∙ ap (λ n. n + defect_count more) sums.defects_of
         ∙ sym (sum_by-append (λ (shot : ShotValue). length shot.defects) (drawn_shots g rate x a) more)
-        ∙ ap defects_in (sym all);
+        ∙ ap defect_count (sym all);
     weight_of = weight_is
         ∙ ap (λ n. n +ℤ weights_in added) sums.weight_of
         ∙ sym (weights_in-append sums.rows added);

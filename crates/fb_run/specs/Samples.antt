@@ -1,7 +1,7 @@
 -- What a sample draws, and the text that it writes.
-use Rattle.std.specs.Prelude.{◌≡◌, ℕ, zero, suc, ◌*◌, ℤ, pos, ◌+ℤ◌, List, [], ◌∷◌, ◌++◌, length, codes, decimal, sum_by}
+use Rattle.std.specs.Prelude.{◌≡◌, ℕ, zero, suc, ◌*◌, ℤ, pos, ◌+ℤ◌, List, [], ◌∷◌, ◌++◌, length, codes, decimal}
 use Rattle.std.specs.Fmt.{signed_decimal}
-use Rattle.fb_crew.specs.Windows.{AreRows}
+use Rattle.fb_crew.specs.Windows.{AreRows, defect_count}
 use Rattle.fb_gen.specs.Drawing.{hits_of, shot_from, state_after}
 use Rattle.fb_graph.specs.Limits.{DecodingGraph, ShotValue}
 use Rattle.fb_graph.specs.declared.parts.Row.{Row}
@@ -17,10 +17,6 @@ drawn_shots g rate x zero = []
 drawn_shots g rate x (suc n) =
     shot_from g (hits_of x rate (length g.edges)) ∷ drawn_shots g rate (state_after x (length g.edges)) n
 
--- the number of defects of all shots
-abbrev pub defects_in : List ShotValue → ℕ
-defects_in shots = sum_by (λ shot. length shot.defects) shots
-
 -- the weight of a row's correction
 abbrev pub weight_in : Row → ℤ
 weight_in (Best edges base weight cuts) = weight
@@ -35,7 +31,7 @@ weights_in (r ∷ rs) = weight_in r +ℤ weights_in rs
 pub record HaveSums (g : DecodingGraph) (rate start count defects : ℕ) (weight : ℤ) : Type 0 where
   pub rows : List Row
   pub decoded : AreRows g (drawn_shots g rate start count) rows
-  pub defects_of : defects ≡ defects_in (drawn_shots g rate start count)
+  pub defects_of : defects ≡ defect_count (drawn_shots g rate start count)
   pub weight_of : weight ≡ weights_in rows
 
 -- the first line: what the text is, and the version of its format

@@ -8,10 +8,11 @@ ghost use Rattle.fb_gen.specs.TimePlan.{time_plan_of};
 ghost use Rattle.fb_graph.specs.Limits.{IsShot, most_vertices};
 ghost use Rattle.fb_plan.specs.Plans.{IsPlan};
 ghost use Rattle.fb_ports.specs.Causes.{CountsFault};
+ghost use Rattle.fb_crew.specs.Windows.{defect_count};
 ghost use Rattle.fb_run.specs.SampleEndings.{SampleEnds};
 ghost use Rattle.fb_run.specs.InternalCauses.{cause_of_sample};
 ghost use Rattle.fb_run.specs.InternalSums.{HasLowWeight, IsLow};
-ghost use Rattle.fb_run.specs.Samples.{HaveSums, defects_in, drawn_shots, weight_in, weights_in};
+ghost use Rattle.fb_run.specs.Samples.{HaveSums, drawn_shots, weight_in, weights_in};
 ghost use Rattle.fb_request.specs.PlainRequests.{plain_sampling};
 ghost use Rattle.fb_request.specs.Requests.{IsSampleInRanges};
 
@@ -186,7 +187,7 @@ impl Sums {
         requires low { All HasLowWeight rows.now }
         requires defects { self.defects ≤ 2 ^ 60 }
         requires weight { IsLow (2 ^ 100) self.weight }
-        ensures defects { result.defects ≡ self.defects + defects_in shots.now }
+        ensures defects { result.defects ≡ self.defects + defect_count shots.now }
         ensures weight { result.weight ≡ self.weight +ℤ weights_in rows.now }
         ensures few_defects { result.defects ≤ self.defects + most_vertices * length shots.now }
         ensures low_weight { IsLow (2 ^ 64 * length rows.now) (weights_in rows.now) }
@@ -201,7 +202,7 @@ impl Sums {
 /// How many defects shots have.
 fn count_defects(shots: &[Shot]) -> u64
     requires { length shots.now ≤ MOST_AT_ONCE }
-    ensures sum { result ≡ defects_in shots.now }
+    ensures sum { result ≡ defect_count shots.now }
     ensures limit { result ≤ most_vertices * length shots.now }
 {
     let mut count = 0;

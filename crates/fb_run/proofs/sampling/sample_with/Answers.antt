@@ -1,9 +1,9 @@
 use Rattle.std.proofs.Common.{arith, ◌+◌, ◌+ℤ◌, length, All, sym, subst, ap, ◌∙◌}
 use Rattle.std.proofs.lemmas.Int.{ints}
 use Rattle.std.proofs.lemmas.Slice.Zip.{AllZip-long}
-use Rattle.fb_crew.specs.Windows.{AreRows, IsShotRow}
+use Rattle.fb_crew.specs.Windows.{AreRows, IsShotRow, defect_count}
 use Rattle.fb_graph.specs.Limits.{IsShot}
-use Rattle.fb_run.specs.Samples.{defects_in, weights_in}
+use Rattle.fb_run.specs.Samples.{weights_in}
 use Rattle.fb_run.specs.InternalSums.{HasLowWeight}
 use Rattle.fb_run.proofs.LowWeights.{low_rows}
 use Rattle.fb_run.proofs.Sampled.{more_sums, state_of_more}
@@ -51,7 +51,7 @@ loop-drawn-preserved g c =
       sums = more_sums c.args.graph.now c.args.request.now.rate start c.loop-drawn.draws drawn count c.loop-drawn.sums.defects
           c.loop-drawn.sums.weight c.with_window-sums.result.defects c.with_window-sums.result.weight shots rows c.loop-drawn.invariant.sums
           c.loop-drawn.invariant.state c.in_ok-shots.ensures.shots decoded
-          (c.with_window-sums.ensures.defects ∙ ap (λ xs. c.loop-drawn.sums.defects + defects_in xs) c.as_slice-in-loop-drawn.ensures.value)
+          (c.with_window-sums.ensures.defects ∙ ap (λ xs. c.loop-drawn.sums.defects + defect_count xs) c.as_slice-in-loop-drawn.ensures.value)
           (c.with_window-sums.ensures.weight ∙ ap (λ xs. c.loop-drawn.sums.weight +ℤ weights_in xs) c.as_slice-in-loop-drawn-2.ensures.value);
       state = state_of_more start c.loop-drawn.draws c.draw_window.new.draws edges drawn count c.loop-drawn.invariant.state c.in_ok-shots.ensures.state;
       crew = c.in_ok-window.ensures.same ∙ c.loop-drawn.invariant.crew;
