@@ -9,6 +9,7 @@ pub mod ChangedNodes
 pub mod ClosedComponents
 pub mod ClosedSets
 pub mod Crossings
+pub mod CutEntries
 pub mod CutSums
 pub mod Duality
 pub mod EndSums

@@ -1,9 +1,8 @@
 -- Cuts in the form in which a report prints them.
-use Rattle.std.proofs.Common.{ℕ, ◌+◌, ◌<◌, ◌≡◌, ◌==◌, Bool, true, false, cond, List, [], ◌∷◌, length, get_or, All, AllPairs, filter, nat_eq, sum_by, suc, refl, sym, ap, ◌∙◌, subst, le_trans, le_of_eq, arith}
-use Rattle.std.specs.Cmp.Lexicographic.{slice_cmp}
+use Rattle.std.proofs.Common.{ℕ, ◌+◌, ◌≡◌, ◌==◌, Bool, true, false, cond, List, [], ◌∷◌, length, get_or, All, AllPairs, filter, nat_eq, sum_by, suc, refl, sym, ap, ◌∙◌, subst, le_trans, le_of_eq, arith}
 use Rattle.std.specs.List.{AllZip, IsDistinct}
 use Rattle.std.specs.List.Sorted.{IsSortedBy, IsStrictlyIncreasing}
-use Rattle.std.specs.Ordering.{nat_cmp, is_lt, is_eq, ordering_reverse}
+use Rattle.std.specs.Ordering.{is_lt, is_eq, ordering_reverse}
 use Rattle.std.specs.declared.cmp.Ordering.{Ordering}
 use Rattle.std.specs.declared.cmp.Ordering.TheVariants.{Less, Equal, Greater}
 use Rattle.std.proofs.lemmas.Bool.{true≢false, both_ways, false_from_ne_true, eqb-true, ltb-true, ltb-false}
@@ -18,18 +17,12 @@ use Rattle.std.proofs.lemmas.Slice.Eq.{bytes_eq-Decides}
 use Rattle.fb_graph.specs.Parity.{differ, is_in}
 use Rattle.fb_graph.specs.Problem.{Problem, crosses}
 use Rattle.fb_graph.specs.Certificate.{AreDistinct, IsOddCut, IsPrintedCut, AreRising, Fits, load_of, total_value}
+use Rattle.fb_graph.specs.InternalCutEntries.{cut_cmp, is_cut_below}
 use Rattle.fb_graph.specs.Printed.{DifferAsSets, IsResorted, is_positive, HasPositiveCuts}
 use Rattle.fb_graph.specs.declared.parts.Cut.{Cut}
 use Rattle.fb_graph.specs.declared.parts.Edge.{Edge}
 use Rattle.fb_graph.proofs.CancelledPairs.{odd-IsPermutation}
 use Rattle.fb_graph.proofs.Sets.{All-from_is_in, distinct_from_rising}
-
--- the order of cuts in a report
-abbrev pub cut_cmp : Cut → Cut → Ordering
-cut_cmp c d = slice_cmp nat_cmp c.vertices d.vertices
-
-abbrev pub is_cut_below : Cut → Cut → Bool
-is_cut_below c d = is_lt (cut_cmp c d)
 
 abbrev are_same_lists : Cut → Cut → Bool
 are_same_lists c d = is_eq (cut_cmp c d)
@@ -71,17 +64,6 @@ printed_from_odd p c d same odd positive =
       positive = omega (arith, ltb-true 0 c.value positive, same.value);
       rising = rising;
     }
-
--- cuts place by place
-pub resorted-from_places : (cs ds : List Cut) → length ds ≡ length cs
-    → ((k : ℕ) (d : Cut) → k < length cs → IsResorted (get_or cs k d) (get_or ds k d)) → AllZip IsResorted cs ds
-resorted-from_places [] [] long each = tt
-resorted-from_places [] (d ∷ ds) long each = absurd (omega arith)
-resorted-from_places (c ∷ cs) [] long each = absurd (omega arith)
-resorted-from_places (c ∷ cs) (d ∷ ds) long each = (
-  each 0 c (omega arith),
-  resorted-from_places cs ds (omega arith) (λ k x less. each (suc k) x (omega arith)),
-)
 
 resorted-All : (P Q : Cut → Type 0) → ((c d : Cut) → IsResorted c d → P c → Q d) → (cs ds : List Cut)
     → AllZip IsResorted cs ds → All P cs → All Q ds

@@ -5,11 +5,13 @@ pub mod Certificate
 pub mod Components
 pub mod Counts
 pub mod Covers
+pub mod CutLists
 pub mod Dual
 pub mod Ends
 pub mod FaultTexts
 pub mod GraphRules
 pub mod InternalCancelledPairs
+pub mod InternalCutEntries
 pub mod InternalFlooding
 pub mod InternalLabelling
 pub mod InternalLayout

@@ -6,6 +6,7 @@ mod building;
 pub mod changes;
 pub mod connected;
 pub mod connecting;
+pub mod cuts;
 pub mod faults;
 mod flood;
 pub mod graph;
@@ -22,6 +23,7 @@ pub mod whole;
 pub use changes::ChangeTable;
 pub use connected::{Components, first_odd};
 pub use connecting::{components, components_of};
+pub use cuts::CutList;
 pub use faults::{GraphFault, NoMemory};
 pub use graph::{Graph, MOST_VERTICES, MOST_WEIGHT};
 pub use laws::{
@@ -29,7 +31,7 @@ pub use laws::{
     odd_occurrences, packings_of_parts, resolving, turned_signs, walk_parity, weak_duality,
     weights_of_shots,
 };
-pub use lists::{CutList, NumberList};
+pub use lists::NumberList;
 pub use parts::{Cut, Edge, Row};
 pub use printed::{odd_ones, printed_cuts};
 pub use scope::Scope;

@@ -1,7 +1,6 @@
 ghost use Rattle.std.specs.Prelude.{◌≡◌, [], ◌∷◌, ◌++◌, if◌then◌else◌, OnOk, OnErr};
 
 use crate::faults::NoMemory;
-use crate::parts::Cut;
 use std::marker::Model;
 
 /// Numbers of vertices or edges, which contracts see as their list.
@@ -54,43 +53,5 @@ impl NumberList {
         ensures err { OnErr result (self.new ≡ self.old) }
     {
         self.numbers.push(number).map_err(|_| NoMemory)
-    }
-}
-
-/// Cuts, which contracts see as their list.
-#[derive(Debug, Drop)]
-pub struct CutList {
-    cuts: Vec<Cut>,
-}
-
-impl Model for CutList {
-    ghost use Rattle.std.specs.Prelude.{List};
-    ghost use Rattle.fb_graph.specs.declared.parts.Cut.{Cut};
-
-    ghost Value = { List Cut };
-
-    ghost view = { λ l. l.cuts.items };
-}
-
-impl CutList {
-    /// The list of these cuts.
-    pub fn from_vec(cuts: Vec<Cut>) -> CutList
-        ensures { result ≡ cuts.items }
-    {
-        CutList { cuts }
-    }
-
-    /// Its cuts, without a copy.
-    pub fn into_vec(self) -> Vec<Cut>
-        ensures { result.items ≡ self }
-    {
-        self.cuts
-    }
-
-    /// Its cuts.
-    pub fn as_slice(&self) -> &[Cut]
-        ensures { result.now ≡ self.now }
-    {
-        self.cuts.as_slice()
     }
 }

@@ -1,4 +1,5 @@
-use crate::lists::{CutList, NumberList};
+use crate::cuts::CutList;
+use crate::lists::NumberList;
 
 /// An edge between two vertices: an error that flips the detectors at both, and its weight without its sign.
 #[derive(Clone, Copy, Debug, PartialEq, Eq)]

@@ -1,19 +1,16 @@
 //! What a solver found, in the form in which a report prints it.
 
 ghost use Rattle.std.specs.Prelude.{◌≡◌, ℕ, ◌≤◌, Bool, true, All, AllPairs, length, sum_by, take};
-ghost use Rattle.std.specs.List.{AllZip};
 ghost use Rattle.std.specs.List.Sorted.{IsNonDecreasing, IsStrictlyIncreasing};
 ghost use Rattle.fb_graph.specs.Parity.{is_odd_count, is_in};
 ghost use Rattle.fb_graph.specs.Problem.{Problem};
 ghost use Rattle.fb_graph.specs.Certificate.{IsOddCut, IsPrintedCut, AreRising, load_of, total_value};
 ghost use Rattle.fb_graph.specs.InternalCancelledPairs.{CancelsTo};
-ghost use Rattle.fb_graph.specs.Printed.{DifferAsSets, HasPositiveCuts, IsResorted};
+ghost use Rattle.fb_graph.specs.Printed.{DifferAsSets, HasPositiveCuts};
 ghost use Rattle.fb_graph.specs.declared.parts.Edge.{Edge};
 
-use crate::lists::{CutList, NumberList};
-use crate::parts::Cut;
-use std::alloc::Global;
-use std::mem;
+use crate::cuts::CutList;
+use crate::lists::NumberList;
 
 /// The numbers that occur an odd number of times, rising. Of the edges of several walks these are the edges of
 /// their sum modulo 2. Takes no memory.
@@ -52,36 +49,16 @@ fn cancel_pairs(numbers: &mut [u32]) -> usize
 
 /// The cuts of value at least 1 as a report prints them: the vertices of each rise, and so do the cuts, compared
 /// entry by entry, a proper prefix first. Any two of the cuts have to differ as sets. Takes no memory.
-pub fn printed_cuts(mut cuts: Vec<Cut>) -> CutList
-    requires { AllPairs DifferAsSets cuts.items }
-    ensures kept { HasPositiveCuts cuts.items result }
-    ensures odd { (p : Problem) → All (IsOddCut p) cuts.items → All (IsPrintedCut p) result }
+pub fn printed_cuts(mut cuts: CutList) -> CutList
+    requires { AllPairs DifferAsSets cuts }
+    ensures kept { HasPositiveCuts cuts result }
+    ensures odd { (p : Problem) → All (IsOddCut p) cuts → All (IsPrintedCut p) result }
     ensures rising { AreRising result }
-    ensures loads { (e : Edge) → load_of result e ≡ load_of cuts.items e }
-    ensures total { total_value result ≡ total_value cuts.items }
+    ensures loads { (e : Edge) → load_of result e ≡ load_of cuts e }
+    ensures total { total_value result ≡ total_value cuts }
 {
-    let alloc = *cuts.allocator();
-    cuts.retain(|cut| cut.value > 0);
-    sort_each(alloc, &mut cuts);
-    cuts.sort_unstable_by(|a, b| a.vertices.as_slice().cmp(b.vertices.as_slice()));
-    CutList::from_vec(cuts)
-}
-
-/// Sorts the vertices of each cut.
-fn sort_each(alloc: Global, cuts: &mut [Cut])
-    ensures { AllZip IsResorted cuts.old cuts.new }
-{
-    for cut in cuts.iter_mut() {
-        sort_vertices(alloc, cut);
-    }
-}
-
-/// Sorts the vertices of a cut in place. The empty list that replaces them meanwhile takes no memory.
-fn sort_vertices(alloc: Global, cut: &mut Cut)
-    ensures { IsResorted cut.old cut.new }
-{
-    let empty = NumberList::from_vec(Vec::new(alloc));
-    let mut vertices = mem::replace(&mut cut.vertices, empty).into_vec();
-    vertices.sort_unstable();
-    cut.vertices = NumberList::from_vec(vertices);
+    cuts.keep_positive();
+    cuts.sort_vertices();
+    cuts.sort();
+    cuts
 }

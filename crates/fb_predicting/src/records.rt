@@ -87,7 +87,7 @@ fn put_record(
             edges,
             base: 0,
             weight: 0,
-            cuts: CutList::from_vec(Vec::new(alloc)),
+            cuts: CutList::new(alloc),
         },
         Line::Odd(_, vertex) => Row::Odd(vertex),
         _ => return Ok(()),

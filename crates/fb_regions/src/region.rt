@@ -13,7 +13,7 @@ use crate::heads::{Link, depth, region_of};
 use crate::marks::Marks;
 use crate::places::place_of;
 use crate::{NodeId, Role};
-use fb_graph::{Cut, NoMemory, NumberList};
+use fb_graph::{Cut, CutList, NoMemory, NumberList};
 use std::alloc::Global;
 
 /// What is kept of a node. Its vertices are kept by their marks, each of which has the one listed before it, and so are
@@ -113,14 +113,30 @@ fn vertices_back(
 ) -> Result<Vec<u32>, NoMemory>
     ensures { IfOk result (λ v. v.items ≡ chain marks.now count last) }
 {
-    let mut vertices = Vec::with_capacity(alloc, count)?;
+    let mut vertices = Vec::new(alloc);
+    read_back(marks, count, last, &mut vertices)?;
+    Ok(vertices)
+}
+
+/// Puts `count` vertices back from `last` in the place of those of the buffer, each listed before the next one; `last` is
+/// the last of them.
+fn read_back(
+    marks: &Marks,
+    count: usize,
+    last: u32,
+    vertices: &mut Vec<u32>,
+) -> Result<(), NoMemory>
+    ensures { OnOk result (vertices.new.items ≡ chain marks.now count last) }
+{
+    vertices.clear();
+    vertices.reserve(count)?;
     let mut at = last;
     for _ in 0..count {
         vertices.push(at)?;
         at = marks.before(at);
     }
     vertices.reverse();
-    Ok(vertices)
+    Ok(())
 }
 
 /// A copy of the layers of a node at this time, from the first to the top.
@@ -163,67 +179,73 @@ fn lower_layers(
     Ok(layers)
 }
 
+/// Room into which the vertices of one node after another are read.
+#[derive(Drop)]
+pub struct Buffers {
+    /// The vertices of a layer.
+    set: Vec<u32>,
+    /// The vertices that the node absorbed.
+    added: Vec<u32>,
+}
+
+impl Buffers {
+    /// Buffers that take no memory yet.
+    pub fn new(alloc: Global) -> Buffers {
+        Buffers {
+            set: Vec::new(alloc),
+            added: Vec::new(alloc),
+        }
+    }
+}
+
 /// Copies of the layers of a node that have a value at this time, from the first to the top, behind those of a list. Its
 /// vertices are read only if there are such layers.
 pub fn put_cuts(
-    alloc: Global,
     marks: &Marks,
     region: &Region,
     clock: u64,
-    cuts: &mut Vec<Cut>,
+    buffers: &mut Buffers,
+    cuts: &mut CutList,
 ) -> Result<(), NoMemory>
     requires begun { HasBegun clock region.now }
     requires top { (now_at clock region.now).top_value < 2 ^ 64 }
     requires fits { (now_at clock region.now).radius < 2 ^ 64 }
     requires radius { (now_at clock region.now).radius ≡ total_value (layers_of (node_of marks.now (now_at clock region.now))) }
-    ensures { OnOk result (cuts.new.items ≡ cuts.old.items ++ filter is_positive (layers_of (node_of marks.now (now_at clock region.now)))) }
+    ensures { OnOk result (cuts.new ≡ cuts.old ++ filter is_positive (layers_of (node_of marks.now (now_at clock region.now)))) }
 {
     if radius_at(region, clock) == 0 {
         return Ok(());
     }
-    let added = vertices_back(alloc, marks, region.added, region.last)?;
-    let mut set = vertices_back(alloc, marks, region.base, region.base_last)?;
-    put_lower_cuts(alloc, marks, added.as_slice(), &mut set, cuts)?;
-    put_top(top_at(region, clock), set, cuts)
+    read_back(marks, region.base, region.base_last, &mut buffers.set)?;
+    read_back(marks, region.added, region.last, &mut buffers.added)?;
+    put_lower_cuts(marks, &buffers.added, &mut buffers.set, cuts)?;
+    put_cut(top_at(region, clock), &buffers.set, cuts)
 }
 
 /// Copies of the layers below those that the vertices began, over a first set, behind which it puts the vertices: those
 /// that have a value, behind those of a list.
 fn put_lower_cuts(
-    alloc: Global,
     marks: &Marks,
     vertices: &[u32],
     set: &mut Vec<u32>,
-    cuts: &mut Vec<Cut>,
+    cuts: &mut CutList,
 ) -> Result<(), NoMemory>
     ensures { OnOk result ((set.new.items ≡ set.old.items ++ vertices.now)
-        × (cuts.new.items ≡ cuts.old.items ++ filter is_positive (stack marks.now set.old.items vertices.now))) }
+        × (cuts.new ≡ cuts.old ++ filter is_positive (stack marks.now set.old.items vertices.now))) }
 {
     for v in vertices {
-        put_cut(alloc, marks.under(*v), set.as_slice(), cuts)?;
+        put_cut(marks.under(*v), set.as_slice(), cuts)?;
         set.push(*v)?;
     }
     Ok(())
 }
 
 /// A layer with a copy of the set, behind those of a list, if it has a value.
-fn put_cut(alloc: Global, value: u64, set: &[u32], cuts: &mut Vec<Cut>) -> Result<(), NoMemory>
-    ensures { OnOk result (cuts.new.items ≡ cuts.old.items ++ filter is_positive (record { value = value; vertices = set.now } ∷ [])) }
+fn put_cut(value: u64, set: &[u32], cuts: &mut CutList) -> Result<(), NoMemory>
+    ensures { OnOk result (cuts.new ≡ cuts.old ++ filter is_positive (record { value = value; vertices = set.now } ∷ [])) }
 {
     if value > 0 {
-        let layer = cut(alloc, value, set)?;
-        cuts.push(layer)?;
-    }
-    Ok(())
-}
-
-/// A layer of the set itself, behind those of a list, if it has a value.
-fn put_top(value: u64, set: Vec<u32>, cuts: &mut Vec<Cut>) -> Result<(), NoMemory>
-    ensures { OnOk result (cuts.new.items ≡ cuts.old.items ++ filter is_positive (record { value = value; vertices = set.items } ∷ [])) }
-{
-    if value > 0 {
-        let vertices = NumberList::from_vec(set);
-        cuts.push(Cut { value, vertices })?;
+        cuts.push(value, set)?;
     }
     Ok(())
 }

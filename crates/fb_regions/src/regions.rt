@@ -27,10 +27,10 @@ use crate::listing::list_together;
 use crate::marks::{Hop, Mark, Marks};
 use crate::merging::{take_marks, take_nodes};
 use crate::places::{enter, enter_from, make_room, place_of, set_place};
-use crate::region::{self, Region, climb_from};
+use crate::region::{self, Buffers, Region, climb_from};
 use crate::residues::residue_left;
 use crate::{Layer, NodeId, Role, Roles, Step, Walk};
-use fb_graph::{NoMemory, Scope};
+use fb_graph::{CutList, NoMemory, Scope};
 use std::alloc::Global;
 use std::marker::Model;
 
@@ -611,13 +611,14 @@ impl<S: Scope> Regions<S> {
     /// Copies of the layers of positive value of all nodes: for each node in the order in which they were made, from its
     /// first layer to its top one. Its time is that of the nodes, of the sets that it copies, and of the vertices that were
     /// absorbed, once each.
-    pub fn cuts(&self, alloc: Global) -> Result<Vec<Layer>, NoMemory>
-        ensures { IfOk result (λ cuts. cuts.items ≡ filter is_positive (all_cuts self.now.nodes)) }
+    pub fn cuts(&self, alloc: Global) -> Result<CutList, NoMemory>
+        ensures { IfOk result (λ cuts. cuts ≡ filter is_positive (all_cuts self.now.nodes)) }
     {
         self.scope.limits();
-        let mut cuts = Vec::new(alloc);
+        let mut cuts = CutList::new(alloc);
+        let mut buffers = Buffers::new(alloc);
         for region in &self.regions {
-            region::put_cuts(alloc, &self.marks, region, self.clock, &mut cuts)?;
+            region::put_cuts(&self.marks, region, self.clock, &mut buffers, &mut cuts)?;
         }
         Ok(cuts)
     }

@@ -2,7 +2,7 @@ ghost use Rattle.std.specs.Prelude.{◌≡◌, [], ◌∷◌, ◌++◌, map, cod
 ghost use Rattle.fb_ports.specs.Causes.{Appends, AppendsPrefix, HasCause, concat};
 ghost use Rattle.fb_report.specs.Texts.{line, line_end, cut_line};
 
-use fb_graph::Cut;
+use fb_graph::CutList;
 use fb_ports::{Failed, Sink, put_all, put_parts};
 use itoa::Buffer;
 
@@ -40,27 +40,29 @@ pub fn put_line_end<S: Sink>(sink: &mut S, numbers: &[u32]) -> Result<(), Failed
 }
 
 /// Puts the line of a cut.
-pub fn put_cut<S: Sink>(sink: &mut S, cut: &Cut) -> Result<(), Failed>
-    ensures all { OnOk result (Appends (S.taken sink.old) (S.taken sink.new) (cut_line cut.now)) }
-    ensures prefix { OnErr result (AppendsPrefix (S.taken sink.old) (S.taken sink.new) (cut_line cut.now)) }
+pub fn put_cut<S: Sink>(sink: &mut S, value: u64, vertices: &[u32]) -> Result<(), Failed>
+    ensures all { OnOk result (Appends (S.taken sink.old) (S.taken sink.new)
+        (cut_line (record { value = value; vertices = vertices.now }))) }
+    ensures prefix { OnErr result (AppendsPrefix (S.taken sink.old) (S.taken sink.new)
+        (cut_line (record { value = value; vertices = vertices.now }))) }
     ensures cause { HasCause (S.faults sink.old) (S.faults sink.new) result }
 {
-    let Ok(()) = put_number(sink, b"cut ", cut.value, b"") else {
+    let Ok(()) = put_number(sink, b"cut ", value, b"") else {
         return Err(Failed);
     };
-    put_line_end(sink, cut.vertices.as_slice())
+    put_line_end(sink, vertices)
 }
 
 /// Puts the lines of cuts.
-pub fn put_cuts<S: Sink>(sink: &mut S, cuts: &[Cut]) -> Result<(), Failed>
+pub fn put_cuts<S: Sink>(sink: &mut S, cuts: &CutList) -> Result<(), Failed>
     ensures all { OnOk result (Appends (S.taken sink.old) (S.taken sink.new)
         (concat (map cut_line cuts.now))) }
     ensures prefix { OnErr result (AppendsPrefix (S.taken sink.old) (S.taken sink.new)
         (concat (map cut_line cuts.now))) }
     ensures cause { HasCause (S.faults sink.old) (S.faults sink.new) result }
 {
-    for cut in cuts {
-        let Ok(()) = put_cut(sink, cut) else {
+    for place in 0..cuts.len() {
+        let Ok(()) = put_cut(sink, cuts.value(place), cuts.vertices(place)) else {
             return Err(Failed);
         };
     }

@@ -4,7 +4,7 @@ ghost use Rattle.fb_report.specs.Texts.{base_line, cut_line, done_text, head_tex
 ghost use Rattle.fb_graph.specs.declared.parts.Row.TheVariants.{Odd};
 
 use crate::pieces::{put_cuts, put_line_end, put_number};
-use fb_graph::{Cut, Row};
+use fb_graph::{CutList, Row};
 use fb_ports::{Failed, Sink, put_all, put_parts};
 use itoa::Buffer;
 
@@ -138,7 +138,7 @@ fn put_certificate<S: Sink>(
     sink: &mut S,
     base: i128,
     weight: i128,
-    cuts: &[Cut],
+    cuts: &CutList,
 ) -> Result<(), Failed>
     ensures all { OnOk result (Appends (S.taken sink.old) (S.taken sink.new)
         ((base_line base ++ weight_line weight) ++ concat (map cut_line cuts.now))) }
@@ -185,7 +185,7 @@ pub fn write_row<S: Sink>(sink: &mut S, shot: u32, row: &Row) -> Result<(), Fail
             let Ok(()) = put_chosen(sink, shot, edges.as_slice()) else {
                 return Err(Failed);
             };
-            put_certificate(sink, *base, *weight, cuts.as_slice())
+            put_certificate(sink, *base, *weight, cuts)
         }
         Row::Odd(vertex) => put_odd(sink, shot, *vertex),
     }

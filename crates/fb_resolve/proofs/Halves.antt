@@ -120,10 +120,10 @@ cuts_differ w nodes cuts part n e =
     subst (AllPairs DifferAsSets) (sym (e ∙ ap positive_cuts n))
     (AllPairs-filter DifferAsSets is_positive (all_cuts w.nodes) part.state.work.nest.differ)
 
-pub cuts_fit : (w : PartValue) (nodes : List Node) (cuts list : List Cut) → IsPart w → nodes ≡ w.nodes
-    → cuts ≡ positive_cuts nodes → list ≡ cuts → total_value list ≤ 2 ^ 52
-cuts_fit w nodes cuts list part n e same =
-    subst (λ (k : ℕ). k ≤ 2 ^ 52) (sym (ap total_value (same ∙ (e ∙ ap positive_cuts n)) ∙ positive_total w.nodes))
+pub cuts_fit : (w : PartValue) (nodes : List Node) (cuts : List Cut) → IsPart w → nodes ≡ w.nodes
+    → cuts ≡ positive_cuts nodes → total_value cuts ≤ 2 ^ 52
+cuts_fit w nodes cuts part n e =
+    subst (λ (k : ℕ). k ≤ 2 ^ 52) (sym (ap total_value (e ∙ ap positive_cuts n) ∙ positive_total w.nodes))
     part.state.work.nest.dual.total
 
 -- the cuts of positive value among those of positive value are these
@@ -146,23 +146,23 @@ positive_of_all cuts printed has = record {
   moved = has.moved;
 }
 
-pub right_row : (w : PartValue) (nodes : List Node) (links : List (Option (List Step))) (ids list edges signed ones : List ℕ) (cuts printed cut_list : List Cut)
+pub right_row : (w : PartValue) (nodes : List Node) (links : List (Option (List Step))) (ids list edges signed ones : List ℕ) (cuts printed : List Cut)
     (base weight : ℤ) (total : ℕ) → IsGraph w.job.graph → IsPart w → IsNested w.store
     → w.node ≡ root_of w.job.plan → w.matching.unmatched ≡ [] → nodes ≡ w.nodes → links ≡ w.links → list ≡ ids → ids ≡ numbers_of w
     → edges ≡ flat_map (λ id. map (λ s. s.edge) (walk_at links id)) list → cuts ≡ positive_cuts nodes
     → ((test : ℕ → Bool) → is_odd_count test signed ≡ is_odd_count test (edges ++ (graph_in w).negatives))
     → IsStrictlyIncreasing ones → ((test : ℕ → Bool) → is_odd_count test ones ≡ is_odd_count test signed)
-    → HasPositiveCuts cuts printed → AreRising printed → cut_list ≡ cuts → base ≡ base_of w.job.graph (shot_of w)
-    → total ≡ total_value cut_list → weight ≡ base +ℤ pos total
+    → HasPositiveCuts cuts printed → AreRising printed → base ≡ base_of w.job.graph (shot_of w)
+    → total ≡ total_value cuts → weight ≡ base +ℤ pos total
     → IsRight w.job.graph (shot_of w) (Best ones base weight printed)
-right_row w nodes links ids list edges signed ones cuts printed cut_list base weight total graph part nested root matched n l e f walked c joined rising parity
-    positive in_order same base_is sum weighs =
+right_row w nodes links ids list edges signed ones cuts printed base weight total graph part nested root matched n l e f walked c joined rising parity
+    positive in_order base_is sum weighs =
     let whole : cuts ≡ positive_cuts w.nodes = c ∙ ap positive_cuts n in
     let edges_are : edges ≡ flat_map (λ id. map (λ s. s.edge) (walk_at w.links id)) (numbers_of w) =
     walked
     ∙ (ap (λ (k : List (Option (List Step))). flat_map (λ id. map (λ s. s.edge) (walk_at k id)) list) l
     ∙ ap (flat_map (λ id. map (λ s. s.edge) (walk_at w.links id))) (e ∙ f)) in
-    let total_is : total ≡ total_value (all_cuts w.nodes) = sum ∙ (ap total_value (same ∙ whole) ∙ positive_total w.nodes) in
+    let total_is : total ≡ total_value (all_cuts w.nodes) = sum ∙ (ap total_value whole ∙ positive_total w.nodes) in
     subst (λ (b : ℤ). IsRight w.job.graph (shot_of w) (Best ones b weight printed)) (sym base_is)
     (subst (λ (k : ℤ). IsRight w.job.graph (shot_of w) (Best ones (base_of w.job.graph (shot_of w)) k printed))
     (sym (weighs ∙ (λ i. base_is i +ℤ pos (total_is i))))

@@ -13,7 +13,7 @@ ghost use Rattle.fb_half.specs.Parts.{graph_in, shot_of};
 
 use crate::exchange::odd_of_both;
 use crate::opening::opened;
-use fb_graph::{Cut, NoMemory, NumberList, Row, Scope, printed_cuts};
+use fb_graph::{CutList, NoMemory, NumberList, Row, Scope, printed_cuts};
 use fb_half::Half;
 use fb_links::{LinkId, Links, NodeId};
 use fb_regions::Regions;
@@ -100,13 +100,13 @@ fn with_negatives(alloc: Global, half: &Half, walked: Vec<u32>) -> Result<(Vec<u
 }
 
 /// The sum of the cuts' values.
-fn total_of(cuts: &[Cut]) -> u64
+fn total_of(cuts: &CutList) -> u64
     requires { total_value cuts.now ≤ 2 ^ 52 }
     ensures { result ≡ total_value cuts.now }
 {
     let mut total = 0;
-    for cut in cuts {
-        total += cut.value;
+    for place in 0..cuts.len() {
+        total += cuts.value(place);
     }
     total
 }

@@ -116,6 +116,6 @@ fn empty_row(alloc: Global) -> Row
         edges: NumberList::from_vec(Vec::new(alloc)),
         base: 0,
         weight: 0,
-        cuts: CutList::from_vec(Vec::new(alloc)),
+        cuts: CutList::new(alloc),
     }
 }

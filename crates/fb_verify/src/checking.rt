@@ -13,7 +13,7 @@ use crate::numbers::{beyond, fall};
 use crate::parities::wrong_parity;
 use crate::sums::{sum_of_values, sum_of_weights};
 use crate::verdicts::Verdict;
-use fb_graph::{Components, Cut, Graph, NoMemory, Row, Shot, Whole, components, first_odd};
+use fb_graph::{Components, CutList, Graph, NoMemory, Row, Shot, Whole, components, first_odd};
 use std::alloc::Global;
 use std::marker::Model;
 
@@ -91,7 +91,6 @@ impl<'a> Judge<'a> {
                 if let Some(fault) = sums_fault(self.graph, shot, edges, *base, *weight) {
                     return Ok(fault);
                 }
-                let cuts = cuts.as_slice();
                 if let Some(fault) = certificate_fault(alloc, self.graph, shot, *weight, cuts)? {
                     return Ok(fault);
                 }
@@ -195,7 +194,7 @@ fn certificate_fault(
     graph: &Graph,
     shot: &Shot,
     weight: i128,
-    cuts: &[Cut],
+    cuts: &CutList,
 ) -> Result<Option<Verdict>, NoMemory>
     requires { IsShot graph.now shot.now }
     ensures { IfOk result (λ f. f ≡ certificate_fault graph.now shot.now weight cuts.now) }

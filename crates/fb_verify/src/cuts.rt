@@ -7,16 +7,16 @@ ghost use Rattle.fb_verify.specs.Verdicts.{cut_fault, cuts_fault};
 use crate::numbers::{beyond, fall};
 use crate::parities::{first_virtual, has_odd_defects};
 use crate::verdicts::Verdict;
-use fb_graph::{Cut, Graph, Shot};
+use fb_graph::{CutList, Graph, Shot};
 
 /// The first fault of the first cut that has one.
-pub(crate) fn first_cut_fault(graph: &Graph, shot: &Shot, cuts: &[Cut]) -> Option<Verdict>
+pub(crate) fn first_cut_fault(graph: &Graph, shot: &Shot, cuts: &CutList) -> Option<Verdict>
     requires { IsShot graph.now shot.now }
     ensures { result ≡ cuts_fault graph.now shot.now 0 [] cuts.now }
 {
     let mut before: &[u32] = &[];
-    for (j, cut) in cuts.iter().enumerate() {
-        let vertices = cut.vertices.as_slice();
+    for j in 0..cuts.len() {
+        let vertices = cuts.vertices(j);
         let fault = fault_of_cut(graph, shot, j as u64, before, vertices);
         if fault.is_some() {
             return fault;

@@ -50,7 +50,7 @@ impl Gathered {
                     edges,
                     base: 0,
                     weight: 0,
-                    cuts: CutList::from_vec(Vec::new(alloc)),
+                    cuts: CutList::new(alloc),
                 });
                 Ok(Gathered { rows, last })
             }
@@ -183,9 +183,9 @@ fn push_cut(cuts: CutList, cut: Cut) -> Result<CutList, ReportFault>
     ensures ok { IfOk result (λ r. r ≡ cuts ++ cut ∷ []) }
     ensures err { IfErr result (λ e. e ≡ NoMemory) }
 {
-    let mut cuts = cuts.into_vec();
-    if cuts.push(cut).is_err() {
+    let mut cuts = cuts;
+    if cuts.push(cut.value, cut.vertices.as_slice()).is_err() {
         return Err(ReportFault::NoMemory);
     }
-    Ok(CutList::from_vec(cuts))
+    Ok(cuts)
 }

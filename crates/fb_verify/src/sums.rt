@@ -4,7 +4,7 @@ ghost use Rattle.std.specs.Prelude.{◌≡◌, ◌<◌, ◌≤◌, ◌^◌, All,
 ghost use Rattle.fb_graph.specs.Signs.{signed_weight_of};
 ghost use Rattle.fb_graph.specs.Certificate.{total_value};
 
-use fb_graph::{Cut, Graph, Shot};
+use fb_graph::{CutList, Graph, Shot};
 
 /// The sum of what the edges weigh for the shot, with their signs.
 pub(crate) fn sum_of_weights(graph: &Graph, shot: &Shot, edges: &[u32]) -> i128
@@ -19,13 +19,14 @@ pub(crate) fn sum_of_weights(graph: &Graph, shot: &Shot, edges: &[u32]) -> i128
 }
 
 /// The sum of the cuts' values.
-pub(crate) fn sum_of_values(cuts: &[Cut]) -> u128
+pub(crate) fn sum_of_values(cuts: &CutList) -> u128
     ensures value { result ≡ total_value cuts.now }
     ensures bound { result ≤ 2 ^ 126 }
 {
+    cuts.limits();
     let mut total: u128 = 0;
-    for cut in cuts {
-        total += u128::from(cut.value);
+    for place in 0..cuts.len() {
+        total += u128::from(cuts.value(place));
     }
     total
 }

@@ -25,15 +25,15 @@ pub returns-then-radius_at-eq0 : goal.returns-then-radius_at-eq0
 returns-then-radius_at-eq0 c =
     let layers = layers_of (node_of c.args.marks.now (now_at c.args.clock c.args.region.now)) in
     sym
-    (ap (λ cuts. c.args.cuts.now.items ++ cuts)
+    (ap (λ cuts. c.args.cuts.now ++ cuts)
     (positive-zero layers (sym c.requires.radius ∙ (sym c.radius_at.ensures ∙ c.if-radius_at-eq0.true)))
-    ∙ append-nil c.args.cuts.now.items)
+    ∙ append-nil c.args.cuts.now)
 
 pub returns : goal.returns
 returns c =
-    on_ok_weaker c.put_top.result
+    on_ok_weaker c.put_cut.result
     (λ is.
-    whole_cuts c.args.marks.now (now_at c.args.clock c.args.region.now) c.top_at.result c.in_ok-set.set.items c.in_ok-added.added.items c.as_slice.result.now
-    c.put_lower_cuts.new.set.items c.args.cuts.now.items c.put_lower_cuts.new.cuts.items c.put_top.new.cuts.items c.in_ok-set.ensures
-    c.in_ok-added.ensures c.as_slice.ensures.value c.in_ok-put_lower_cuts.ensures.0 c.in_ok-put_lower_cuts.ensures.1 c.top_at.ensures is)
-    c.put_top.ensures
+    whole_cuts c.args.marks.now (now_at c.args.clock c.args.region.now) c.top_at.result c.read_back.new.vertices.items c.read_back-2.new.vertices.items c.deref.result.now
+    c.deref-2.result.now c.args.cuts.now c.put_lower_cuts.new.cuts c.put_cut.new.cuts c.in_ok-read_back.ensures
+    c.in_ok-read_back-2.ensures c.deref.ensures.value (c.deref-2.ensures.value ∙ c.in_ok-put_lower_cuts.ensures.0) c.in_ok-put_lower_cuts.ensures.1 c.top_at.ensures is)
+    c.put_cut.ensures

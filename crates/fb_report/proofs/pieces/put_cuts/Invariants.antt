@@ -4,7 +4,7 @@ use Rattle.fb_ports.specs.Causes.{Appends, concat}
 use Rattle.fb_report.specs.Texts.{cut_line}
 use Rattle.fb_report.proofs.pieces.put_cuts.Given as goal
 
-abbrev pub invariant-loop-cut : goal.invariant-loop-cut
-invariant-loop-cut g l =
-    Appends (g.S.Sink.taken l.initial.sink) (g.S.Sink.taken l.sink) (concat (map cut_line (take l.cut-index l.cuts)))
+abbrev pub invariant-loop-place : goal.invariant-loop-place
+invariant-loop-place g l =
+    Appends (g.S.Sink.taken l.initial.sink) (g.S.Sink.taken l.sink) (concat (map cut_line (take l.place l.cuts)))
     × (g.S.Sink.faults l.sink ≡ g.S.Sink.faults l.initial.sink)

@@ -23,7 +23,7 @@ returns-in-Ok-clause-all g c =
     (on_ok_weaker c.put_certificate.result
     (λ p. subst (Appends _ _) (sym (row_text-best c.args.shot c.in-Best.edges c.in-Best.base c.in-Best.weight c.in-Best.cuts))
     (Appends-trans _ _ _ _ _ (rw c.as_slice.ensures at c.in-Ok.ensures.all) p))
-    (rw (to_z-of_z _ _ base, to_z-of_z _ _ weight, c.as_slice-in-Best.ensures) at c.put_certificate.ensures.all))
+    (rw (to_z-of_z _ _ base, to_z-of_z _ _ weight) at c.put_certificate.ensures.all))
 
 pub returns-in-Ok-clause-prefix : goal.returns-in-Ok-clause-prefix
 returns-in-Ok-clause-prefix g c =
@@ -33,4 +33,4 @@ returns-in-Ok-clause-prefix g c =
     (on_err_weaker c.put_certificate.result
     (λ p. subst (AppendsPrefix _ _) (sym (row_text-best c.args.shot c.in-Best.edges c.in-Best.base c.in-Best.weight c.in-Best.cuts))
     (prefix_second _ _ _ _ _ (rw c.as_slice.ensures at c.in-Ok.ensures.all) p))
-    (rw (to_z-of_z _ _ base, to_z-of_z _ _ weight, c.as_slice-in-Best.ensures) at c.put_certificate.ensures.prefix))
+    (rw (to_z-of_z _ _ base, to_z-of_z _ _ weight) at c.put_certificate.ensures.prefix))

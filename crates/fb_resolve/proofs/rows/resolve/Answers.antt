@@ -26,12 +26,12 @@ edges_of-requires c =
 
 pub printed_cuts-requires : goal.printed_cuts-requires
 printed_cuts-requires c =
-    cuts_differ c.args.half.now c.regions-2.result.now.nodes c.in_ok-cuts.cuts.items c.keeps.ensures.part c.regions-2.ensures.nodes c.in_ok-cuts.ensures
+    cuts_differ c.args.half.now c.regions-2.result.now.nodes c.in_ok-cuts.cuts c.keeps.ensures.part c.regions-2.ensures.nodes c.in_ok-cuts.ensures
 
 pub total_of-total-requires : goal.total_of-total-requires
 total_of-total-requires c =
-    cuts_fit c.args.half.now c.regions-2.result.now.nodes c.in_ok-cuts.cuts.items c.deref-3.result.now c.keeps.ensures.part c.regions-2.ensures.nodes
-    c.in_ok-cuts.ensures c.deref-3.ensures.value
+    cuts_fit c.args.half.now c.regions-2.result.now.nodes c.in_ok-cuts.cuts c.keeps.ensures.part c.regions-2.ensures.nodes
+    c.in_ok-cuts.ensures
 
 pub returns : goal.returns
 returns c =
@@ -39,11 +39,11 @@ returns c =
     let same : c.from-base.result ≡ c.in_ok-edges.base = omega (arith, ints, fits, c.from-base.ensures) in
     let wide : to_z w128 (of_z w128 c.from-base.result) ≡ c.from-base.result = omega (arith, ints, fits, same) in
     right_row c.args.half.now c.regions-2.result.now.nodes c.links-2.result.now c.in_ok-ids.ids.items c.deref-2.result.now c.in_ok-walked.walked.items
-    c.in_ok-edges.edges.items c.from_vec.result c.in_ok-cuts.cuts.items c.printed_cuts.result c.deref-3.result.now _ _ c.total_of-total.result
+    c.in_ok-edges.edges.items c.from_vec.result c.in_ok-cuts.cuts c.printed_cuts.result _ _ c.total_of-total.result
     (subst IsGraph (c.graph.ensures ∙ ap (λ j. j.graph) c.job.ensures) c.limits.ensures) c.keeps.ensures.part
     (subst IsNested c.blossoms.ensures c.keeps-2.ensures) c.requires c.keeps.ensures.matched c.regions-2.ensures.nodes c.links-2.ensures c.deref-2.ensures.value
     (ids_read c.args.half.now c.blossoms-2.result.now c.links.result.now c.regions.result.now.nodes c.matches.result.now c.deref.result.now c.in_ok-ids.ids.items
     record { store_is = c.blossoms-2.ensures; links_are = c.links.ensures; nodes_are = c.regions.ensures.nodes; matches_are = c.matches.ensures; names_are = c.deref.ensures.value ∙ c.in_ok-names.ensures; ids_are = c.in_ok-ids.ensures })
     c.in_ok-walked.ensures c.in_ok-cuts.ensures c.in_ok-edges.ensures.parity (subst IsStrictlyIncreasing (sym c.from_vec.ensures) c.in_ok-edges.ensures.rising) (λ test. ap (is_odd_count test) c.from_vec.ensures) c.printed_cuts.ensures.kept
-    c.printed_cuts.ensures.rising c.deref-3.ensures.value (wide ∙ (same ∙ c.in_ok-edges.ensures.base)) c.total_of-total.ensures
+    c.printed_cuts.ensures.rising (wide ∙ (same ∙ c.in_ok-edges.ensures.base)) c.total_of-total.ensures
     (omega (arith, ints, fits, same, c.from.ensures))

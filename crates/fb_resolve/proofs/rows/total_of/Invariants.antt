@@ -2,5 +2,5 @@ use Rattle.std.proofs.Common.{◌≡◌, take}
 use Rattle.fb_graph.specs.Certificate.{total_value}
 use Rattle.fb_resolve.proofs.rows.total_of.Given as goal
 
-abbrev pub invariant-loop-cut : goal.invariant-loop-cut
-invariant-loop-cut l = l.total ≡ total_value (take l.cut-index l.cuts)
+abbrev pub invariant-loop-place : goal.invariant-loop-place
+invariant-loop-place l = l.total ≡ total_value (take l.place l.cuts)

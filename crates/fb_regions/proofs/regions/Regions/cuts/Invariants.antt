@@ -7,5 +7,5 @@ use Rattle.fb_regions.proofs.regions.Regions.cuts.Given as goal
 
 abbrev pub invariant-loop-region : goal.invariant-loop-region
 invariant-loop-region g l =
-    l.cuts.items ++ filter is_positive (all_cuts (nodes_of l.self-inside.marks (all_at l.self-inside.clock (drop l.region-index l.self-inside.regions.items))))
+    l.cuts ++ filter is_positive (all_cuts (nodes_of l.self-inside.marks (all_at l.self-inside.clock (drop l.region-index l.self-inside.regions.items))))
     ≡ filter is_positive (all_cuts (nodes_of l.self-inside.marks (all_at l.self-inside.clock l.self-inside.regions.items)))

@@ -1,6 +1,6 @@
 use Rattle.std.proofs.Common.{◌∙◌}
 use Rattle.fb_regions.proofs.Chains.{chain_back}
-use Rattle.fb_regions.proofs.region.vertices_back.Goals as goal
+use Rattle.fb_regions.proofs.region.read_back.Goals as goal
 
 pub loop-preserved : goal.loop-preserved
 loop-preserved c =
