@@ -7,8 +7,8 @@ use Rattle.std.proofs.lemmas.List.Folds.{sum_by-replicate}
 use Rattle.std.proofs.lemmas.List.Sums.{sum_by-set, sum_by_push}
 use Rattle.std.proofs.lemmas.Option.{same_Some}
 use Rattle.std.specs.Prelude.{nat_lt}
-use Rattle.fb_book.specs.declared.entries.Kind.{Kind}
-use Rattle.fb_book.specs.declared.entries.Kind.TheVariants.{Took, Gave, Left}
+use Rattle.fb_book.specs.declared.entries.EntryKind.{EntryKind}
+use Rattle.fb_book.specs.declared.entries.EntryKind.TheVariants.{Took, Gave, Left}
 use Rattle.fb_book.specs.declared.entries.Entry.{Entry}
 use Rattle.fb_book.specs.declared.entries.Status.{Status}
 use Rattle.fb_book.specs.declared.entries.Status.TheVariants.{Idle, Held, Given, Used, Left as Lost}
@@ -115,7 +115,7 @@ reached_start kids n count forest = record {
     idle k less = get_or-replicate count k Idle Used less
 
 -- an item that wasn't used is no child of one that was taken before
-abbrev pub Step : Kids → ℕ → ℕ → List Status → List Entry → Entry → Kind → Type 0
+abbrev pub Step : Kids → ℕ → ℕ → List Status → List Entry → Entry → EntryKind → Type 0
 Step kids n count st h e kind = IsReached kids n count st h → e.kind ≡ kind
     → is_permitted kids st kind e.worker (place n e) ≡ true
     → IsReached kids n count (after kids st kind e.worker (place n e)) (h ++ e ∷ [])
@@ -204,14 +204,14 @@ reached_took kids n count forest st h e r kind allowed = record {
         pass (k, below, child, was) = (k, below, child, busy k was (at k))
 
 -- The step where a held item becomes s, given or left.
-pub record IsLet (kind : Kind) (s : Status) : Type 0 where
+pub record IsLet (kind : EntryKind) (s : Status) : Type 0 where
   pub entries : entries_of s ≡ 2
   pub losses : losses_of s ≡ cond (is_loss_kind kind) 1 0
   pub busy : is_idle s ≡ false
   pub unused : is_used s ≡ false
   pub told : (w : ℕ) → IsTraceOf s ((Took, w) ∷ (kind, w) ∷ [])
 
-pub reached_let : (kids : Kids) (n count : ℕ) (st : List Status) (h : List Entry) (e : Entry) (kind : Kind) (s : Status)
+pub reached_let : (kids : Kids) (n count : ℕ) (st : List Status) (h : List Entry) (e : Entry) (kind : EntryKind) (s : Status)
     → IsLet kind s → IsReached kids n count st h → e.kind ≡ kind
     → is_held_by e.worker (status_at st (place n e)) ≡ true
     → IsReached kids n count (set st (place n e) s) (h ++ e ∷ [])
@@ -299,7 +299,7 @@ pub reached_step : (kids : Kids) (n count : ℕ) → IsForest kids → (st : Lis
 reached_step kids n count forest st h e r allowed =
     turn e.kind refl (and_parts (nat_lt e.node n) (is_permitted kids st e.kind e.worker (place n e)) allowed).1
   where
-    turn : (kind : Kind) → e.kind ≡ kind → is_permitted kids st kind e.worker (place n e) ≡ true
+    turn : (kind : EntryKind) → e.kind ≡ kind → is_permitted kids st kind e.worker (place n e) ≡ true
         → IsReached kids n count (after kids st kind e.worker (place n e)) (h ++ e ∷ [])
     turn Took is may = reached_took kids n count forest st h e r is may
     turn Gave is may = reached_let kids n count st h e Gave Given given_facts r is may

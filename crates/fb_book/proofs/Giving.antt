@@ -7,8 +7,8 @@ use Rattle.std.proofs.lemmas.List.Sorted.{sum_by-IsPermutation}
 use Rattle.std.proofs.lemmas.List.Sums.{sum_by-append, sum_by-cons}
 use Rattle.std.specs.List.Sorted.{IsPermutation}
 use Rattle.std.specs.Option.{option_to_list}
-use Rattle.fb_book.specs.declared.entries.Kind.{Kind}
-use Rattle.fb_book.specs.declared.entries.Kind.TheVariants.{Gave, Left}
+use Rattle.fb_book.specs.declared.entries.EntryKind.{EntryKind}
+use Rattle.fb_book.specs.declared.entries.EntryKind.TheVariants.{Gave, Left}
 use Rattle.fb_book.specs.declared.entries.Entry.{Entry}
 use Rattle.fb_book.specs.declared.entries.Status.{Status}
 use Rattle.fb_book.specs.declared.entries.Status.TheVariants.{Given, Left as Lost}
@@ -58,10 +58,10 @@ module _ {c : Course} {nodes : ℕ} {parents : List (Option ℕ)} {st : List Sta
       ap (λ s. is_held_by w (status_at s (place_in c slot node))) (statuses_are c st i.board.replayed)
       ∙ ap (λ k. is_held_by w (status_at st k)) (sym place_is)
 
-  abbrev pub entry_for : Kind → ℕ → Entry
+  abbrev pub entry_for : EntryKind → ℕ → Entry
   entry_for kind w = record { kind = kind; worker = w; slot = slot; node = node }
 
-  pub letting : (kind : Kind) (w : ℕ) → is_held_by w (status_at st at_place) ≡ true
+  pub letting : (kind : EntryKind) (w : ℕ) → is_held_by w (status_at st at_place) ≡ true
       → Letting (nodes_of c) st (entry_for kind w) kind at_place
   letting kind w held = record {
     kind_is = refl;

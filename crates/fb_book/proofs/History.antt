@@ -6,8 +6,8 @@ use Rattle.std.specs.Prelude.{nat_lt}
 use Rattle.std.proofs.lemmas.List.Elements.{All-nil, All-cons}
 use Rattle.std.specs.List.{All, list_any, list_all}
 use Rattle.fb_graph.specs.Parity.{is_in}
-use Rattle.fb_book.specs.declared.entries.Kind.{Kind}
-use Rattle.fb_book.specs.declared.entries.Kind.TheVariants.{Took, Gave}
+use Rattle.fb_book.specs.declared.entries.EntryKind.{EntryKind}
+use Rattle.fb_book.specs.declared.entries.EntryKind.TheVariants.{Took, Gave}
 use Rattle.fb_book.specs.declared.entries.Entry.{Entry}
 use Rattle.fb_book.specs.declared.entries.Status.{Status}
 use Rattle.fb_book.specs.declared.entries.Status.TheVariants.{Idle, Held, Given, Used, Left as Lost}
@@ -131,14 +131,14 @@ two_each kids n count history st forest replayed =
     let size : length st ≡ count = r.size in
     (omega (arith, most, all, size), λ k less. few (status_at st k) (trace n k history) (r.told k less))
   where
-    few : (s : Status) (done : List (Kind × ℕ)) → IsTraceOf s done → length done ≤ 2
+    few : (s : Status) (done : List (EntryKind × ℕ)) → IsTraceOf s done → length done ≤ 2
     few Idle done e = rw e (omega arith)
     few (Held w) done e = rw e (omega arith)
     few Given done (w, e) = rw e (omega arith)
     few Used done (w, e) = rw e (omega arith)
     few Lost done (w, e) = rw e (omega arith)
 
-pub over_told : (s : Status) (done : List (Kind × ℕ)) → is_over s ≡ true → IsTraceOf s done
+pub over_told : (s : Status) (done : List (EntryKind × ℕ)) → is_over s ≡ true → IsTraceOf s done
     → (w : ℕ) × (done ≡ (Took, w) ∷ (Gave, w) ∷ [])
 over_told Idle done over told = absurd (false≢true over)
 over_told (Held w) done over told = absurd (false≢true over)

@@ -4,8 +4,8 @@ use Rattle.std.proofs.lemmas.Bool.{cases_lt, false≢true}
 use Rattle.std.proofs.lemmas.List.{get_or_past}
 use Rattle.std.proofs.lemmas.Option.{slice_get_within}
 use Rattle.std.proofs.lemmas.Nat.{div-add-mod', mod-mul-add, mod_below, mul-add-lt}
-use Rattle.fb_book.specs.declared.entries.Kind.{Kind}
-use Rattle.fb_book.specs.declared.entries.Kind.TheVariants.{Took, Gave, Left}
+use Rattle.fb_book.specs.declared.entries.EntryKind.{EntryKind}
+use Rattle.fb_book.specs.declared.entries.EntryKind.TheVariants.{Took, Gave, Left}
 use Rattle.fb_book.specs.declared.entries.Status.{Status}
 use Rattle.fb_book.specs.declared.entries.Status.TheVariants.{Idle, Held, Given, Used, Left as Lost}
 use Rattle.fb_book.specs.Machine.{IsForest, is_child, is_given, is_over, status_at}
@@ -32,7 +32,7 @@ module _ {P : Type 0} {job_of : P → JobValue} {slot_of node_of : P → ℕ} {m
   place_same s n = ap (λ c. place_in c s n) (sym b.course)
 
   module _ (new : Course) (w s n : ℕ) where
-    course_new : (kind : Kind) → Adds old new kind w s n → new ≡ course_of job new.history
+    course_new : (kind : EntryKind) → Adds old new kind w s n → new ≡ course_of job new.history
     course_new kind a = course_same job_of slot_of node_of made_of job workers old new parked b.course i.run b.kept kind w s n a
 
     pub book_unit : w ≤ workers → TakesUnit old new w s n → IsBook job_of slot_of node_of made_of job workers new parked roots room

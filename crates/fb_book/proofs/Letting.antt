@@ -6,8 +6,8 @@ use Rattle.std.proofs.lemmas.List.Folds.{list_any_at}
 use Rattle.std.proofs.lemmas.List.Sums.{sum_by-set}
 use Rattle.std.specs.Prelude.{nat_lt}
 use Rattle.std.specs.List.{list_any}
-use Rattle.fb_book.specs.declared.entries.Kind.{Kind}
-use Rattle.fb_book.specs.declared.entries.Kind.TheVariants.{Gave, Left}
+use Rattle.fb_book.specs.declared.entries.EntryKind.{EntryKind}
+use Rattle.fb_book.specs.declared.entries.EntryKind.TheVariants.{Gave, Left}
 use Rattle.fb_book.specs.declared.entries.Entry.{Entry}
 use Rattle.fb_book.specs.declared.entries.Status.{Status}
 use Rattle.fb_book.specs.declared.entries.Status.TheVariants.{Held, Given, Used, Left as Lost}
@@ -25,7 +25,7 @@ any_set p (x ∷ st) zero s less e = ap (λ b. b || list_any p st) e
 any_set p (x ∷ st) (suc k) s less e = ap (λ b. p x || b) (any_set p st k s (omega arith) e)
 
 -- an entry of the worker that holds the item at place k
-pub record Letting (n : ℕ) (st : List Status) (e : Entry) (kind : Kind) (k : ℕ) : Type 0 where
+pub record Letting (n : ℕ) (st : List Status) (e : Entry) (kind : EntryKind) (k : ℕ) : Type 0 where
   pub kind_is : e.kind ≡ kind
   pub node : e.node < n
   pub place_is : place n e ≡ k

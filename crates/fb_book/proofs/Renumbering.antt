@@ -7,8 +7,8 @@ use Rattle.std.proofs.Math.Nat.{mul-le-mul_right}
 use Rattle.std.specs.Prelude.{nat_lt}
 use Rattle.std.specs.List.{All, list_any}
 use Rattle.std.proofs.lemmas.List.Elements.{All-nil, All-cons}
-use Rattle.fb_book.specs.declared.entries.Kind.{Kind}
-use Rattle.fb_book.specs.declared.entries.Kind.TheVariants.{Took, Gave, Left}
+use Rattle.fb_book.specs.declared.entries.EntryKind.{EntryKind}
+use Rattle.fb_book.specs.declared.entries.EntryKind.TheVariants.{Took, Gave, Left}
 use Rattle.fb_book.specs.declared.entries.Entry.{Entry}
 use Rattle.fb_book.specs.declared.entries.Status.{Status}
 use Rattle.fb_book.specs.declared.entries.Status.TheVariants.{Idle, Held, Given, Used, Left as Lost}
@@ -138,7 +138,7 @@ module _ (f : ℕ → ℕ) (n slots more : ℕ) (r : IsRenumbering f slots more)
             Goes f n slots more (set (with_used children st) (place n e) (Held e.worker))
             (set (with_used images new) (place n (renumbered_entry f e)) (Held e.worker))
 
-        turn : (kind : Kind) → e.node < n → nat_lt e.node n ≡ true → is_permitted kids st kind e.worker (place n e) ≡ true
+        turn : (kind : EntryKind) → e.node < n → nat_lt e.node n ≡ true → is_permitted kids st kind e.worker (place n e) ≡ true
             → (e.slot < slots) × ((nat_lt e.node n && is_permitted kids new kind e.worker (place n (renumbered_entry f e))) ≡ true)
             × Goes f n slots more (after kids st kind e.worker (place n e))
             (after kids new kind e.worker (place n (renumbered_entry f e)))

@@ -6,8 +6,8 @@ use Rattle.std.proofs.lemmas.List.Elements.{All-push}
 use Rattle.std.proofs.lemmas.Nat.{mul-add-lt}
 use Rattle.std.proofs.lemmas.Option.{same_Some}
 use Rattle.std.specs.Prelude.{nat_lt}
-use Rattle.fb_book.specs.declared.entries.Kind.{Kind}
-use Rattle.fb_book.specs.declared.entries.Kind.TheVariants.{Took, Gave, Left}
+use Rattle.fb_book.specs.declared.entries.EntryKind.{EntryKind}
+use Rattle.fb_book.specs.declared.entries.EntryKind.TheVariants.{Took, Gave, Left}
 use Rattle.fb_book.specs.declared.entries.Entry.{Entry}
 use Rattle.fb_book.specs.declared.entries.Status.TheVariants.{Held, Given, Left as Lost}
 use Rattle.fb_book.specs.Machine.{is_child, status_at, is_given, is_used, is_permitted, after, all_idle}
@@ -18,11 +18,11 @@ use Rattle.fb_book.proofs.Statuses.{IsSetAt, here, there, IsTakenAt, taken, used
 use Rattle.fb_book.proofs.History.{Midway, midway}
 
 -- what an entry did to the statuses
-pub record Added (old : Course) (new : Course) (kind : Kind) (worker k : ℕ) : Type 0 where
+pub record Added (old : Course) (new : Course) (kind : EntryKind) (worker k : ℕ) : Type 0 where
   pub allowed : is_permitted (kids_of old) (statuses_of old) kind worker k ≡ true
   pub statuses : statuses_of new ≡ after (kids_of old) (statuses_of old) kind worker k
 
-pub added : (old new : Course) (kind : Kind) (worker slot node : ℕ) → IsRun old → Adds old new kind worker slot node
+pub added : (old new : Course) (kind : EntryKind) (worker slot node : ℕ) → IsRun old → Adds old new kind worker slot node
     → Added old new kind worker (place_in old slot node)
 added old new kind worker slot node run a =
     subst (λ x. Added old x kind worker (place_in old slot node)) (sym a.entry)
@@ -73,7 +73,7 @@ module _ {P : Type 0} (job_of : P → JobValue) (slot_of node_of : P → ℕ) (m
     (old new : Course) (parked : List (Option P)) (old_is : old ≡ course_of job old.history) (run : IsRun old)
     (k : IsKept job_of slot_of node_of made_of job workers old.history parked) where
   -- the course of a job is told by its history
-  pub course_same : (kind : Kind) (w slot node : ℕ) → Adds old new kind w slot node → new ≡ course_of job new.history
+  pub course_same : (kind : EntryKind) (w slot node : ℕ) → Adds old new kind w slot node → new ≡ course_of job new.history
   course_same kind w slot node a =
       let one : new ≡ with_entry old kind w slot node = a.entry in
       one ∙ (ap (λ c. with_entry c kind w slot node) old_is ∙ ap (λ c. course_of job c.history) (sym one))
@@ -84,13 +84,13 @@ module _ {P : Type 0} (job_of : P → JobValue) (slot_of node_of : P → ℕ) (m
   given_old : (j : ℕ) → is_given (status_at (statuses_of old) j) ≡ is_some (get_or parked j None)
   given_old j = ap (λ s. is_given (status_at s j)) (sym statuses_old) ∙ k.given j
 
-  by_new : (kind : Kind) (w slot node : ℕ) → w ≤ workers → Adds old new kind w slot node → All (λ e. e.worker ≤ workers) new.history
+  by_new : (kind : EntryKind) (w slot node : ℕ) → w ≤ workers → Adds old new kind w slot node → All (λ e. e.worker ≤ workers) new.history
   by_new kind w slot node few a =
       subst (λ c. All (λ e. e.worker ≤ workers) c.history) (sym a.entry)
       (All-push (λ e. e.worker ≤ workers) old.history (record { kind = kind; worker = w; slot = slot; node = node }) k.by few)
 
   -- the same book after an entry, where pieces are told place by place
-  pub kept_by : (kind : Kind) (w slot node : ℕ) → w ≤ workers → (a : Adds old new kind w slot node)
+  pub kept_by : (kind : EntryKind) (w slot node : ℕ) → w ≤ workers → (a : Adds old new kind w slot node)
       → (left : List (Option P)) → length left ≡ length parked
       → ((j : ℕ) → is_given (status_at (after (kids_of old) (statuses_of old) kind w (place_in old slot node)) j) ≡ is_some (get_or left j None))
       → ((j : ℕ) (p : P) → get_or left j None ≡ Some p → IsPieceAt job_of slot_of node_of made_of job j p)

@@ -1,8 +1,8 @@
 -- A run over the items of a plan's nodes in several slots.
 use Rattle.std.specs.Prelude.{ℕ, ◌≡◌, ◌+◌, ◌-◌, ◌*◌, ◌/◌, ◌%◌, ◌<◌, ◌≤◌, Bool, true, false, nat_lt, if◌then◌else◌, is_some, unwrap_or, Option, Some, None, List, [], ◌∷◌, ◌++◌, length, slice_get}
 use Rattle.std.specs.List.{list_any, list_all}
-use Rattle.fb_book.specs.declared.entries.Kind.{Kind}
-use Rattle.fb_book.specs.declared.entries.Kind.TheVariants.{Took}
+use Rattle.fb_book.specs.declared.entries.EntryKind.{EntryKind}
+use Rattle.fb_book.specs.declared.entries.EntryKind.TheVariants.{Took}
 use Rattle.fb_book.specs.declared.entries.Entry.{Entry}
 use Rattle.fb_book.specs.declared.entries.Status.{Status}
 use Rattle.fb_book.specs.Machine.{Kids, status_at, is_held, is_held_by, is_left, is_over, can_take, replay, all_idle}
@@ -53,12 +53,12 @@ place_in c slot node = slot * nodes_of c + node
 abbrev pub item_status : Course → ℕ → ℕ → Status
 item_status c slot node = status_at (statuses_of c) (place_in c slot node)
 
-abbrev pub with_entry : Course → Kind → ℕ → ℕ → ℕ → Course
+abbrev pub with_entry : Course → EntryKind → ℕ → ℕ → ℕ → Course
 with_entry c kind worker slot node =
     record c { history = c.history ++ record { kind = kind; worker = worker; slot = slot; node = node } ∷ [] }
 
 -- one entry more, which the machine allows
-pub record Adds (old new : Course) (kind : Kind) (worker slot node : ℕ) : Type 0 where
+pub record Adds (old new : Course) (kind : EntryKind) (worker slot node : ℕ) : Type 0 where
   pub in_slots : slot < old.slots
   pub in_nodes : node < nodes_of old
   pub entry : new ≡ with_entry old kind worker slot node
@@ -104,6 +104,6 @@ pub record TakesFusion (old new : Course) (worker slot node left right : ℕ) : 
   pub first : IsFirstFusion old (place_in old slot node)
 
 -- The item was held by the worker, and there is one entry more.
-pub record Lets (old new : Course) (kind : Kind) (worker slot node : ℕ) : Type 0 where
+pub record Lets (old new : Course) (kind : EntryKind) (worker slot node : ℕ) : Type 0 where
   pub adds : Adds old new kind worker slot node
   pub held : is_held_by worker (item_status old slot node) ≡ true

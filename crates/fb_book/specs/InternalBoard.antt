@@ -1,7 +1,7 @@
 -- What a run and a book keep beside the history, so that the next item is found without a search.
 use Rattle.std.specs.Prelude.{ℕ, ◌≡◌, ◌+◌, ◌*◌, ◌/◌, ◌%◌, ◌^◌, ◌<◌, ◌≤◌, ◌==◌, ◌&&◌, Bool, true, false, nat_lt, if◌then◌else◌, cond, is_some, option_map, Option, Some, None, List, [], length, get_or, sum_by, count_by}
 use Rattle.std.specs.List.{list_any}
-use Rattle.fb_book.specs.declared.entries.Kind.{Kind}
+use Rattle.fb_book.specs.declared.entries.EntryKind.{EntryKind}
 use Rattle.fb_book.specs.declared.entries.Entry.{Entry}
 use Rattle.fb_book.specs.declared.entries.Status.{Status}
 use Rattle.fb_book.specs.Machine.{Kids, IsForest, is_child, status_at, is_idle, is_held_by, is_left, is_over, can_take, replay, all_idle}
@@ -57,7 +57,7 @@ abbrev pub AreWithin : Option (ℕ × ℕ) → ℕ → Type 0
 AreWithin None count = Unit {0}
 AreWithin (Some pair) count = (pair.0 < count) × (pair.1 < count)
 
-abbrev pub entry_at : Kind → ℕ → ℕ → ℕ → Entry
+abbrev pub entry_at : EntryKind → ℕ → ℕ → ℕ → Entry
 entry_at kind worker nodes k = record { kind = kind; worker = worker; slot = k / nodes; node = k % nodes }
 
 abbrev pub parent_place : ℕ → List (Option ℕ) → ℕ → Option ℕ

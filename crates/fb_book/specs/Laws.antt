@@ -2,8 +2,8 @@
 use Rattle.std.specs.Prelude.{ℕ, ◌≡◌, ◌+◌, ◌*◌, ◌<◌, ◌≤◌, ◌⊎◌, true, false, Some, List, [], ◌∷◌, ◌++◌, length, map}
 use Rattle.std.specs.List.{All, list_any, list_all}
 use Rattle.fb_graph.specs.Parity.{is_in}
-use Rattle.fb_book.specs.declared.entries.Kind.{Kind}
-use Rattle.fb_book.specs.declared.entries.Kind.TheVariants.{Took, Gave, Left}
+use Rattle.fb_book.specs.declared.entries.EntryKind.{EntryKind}
+use Rattle.fb_book.specs.declared.entries.EntryKind.TheVariants.{Took, Gave, Left}
 use Rattle.fb_book.specs.declared.entries.Entry.{Entry}
 use Rattle.fb_book.specs.declared.entries.Status.{Status}
 use Rattle.fb_book.specs.declared.entries.Status.TheVariants.{Idle, Held, Given, Used, Left as Lost}
@@ -26,7 +26,7 @@ FusionIsMadeLast = (tree : PlanTree) → IsTree tree → (n left right : ℕ) �
     → nodes_made tree n ≡ nodes_made tree left ++ nodes_made tree right ++ n ∷ []
 
 -- what was done with an item of this status
-abbrev pub IsTraceOf : Status → List (Kind × ℕ) → Type 0
+abbrev pub IsTraceOf : Status → List (EntryKind × ℕ) → Type 0
 IsTraceOf Idle done = done ≡ []
 IsTraceOf (Held w) done = done ≡ (Took, w) ∷ []
 IsTraceOf Given done = (w : ℕ) × (done ≡ (Took, w) ∷ (Gave, w) ∷ [])

@@ -2,8 +2,8 @@
 use Rattle.std.specs.Prelude.{ℕ, ◌≡◌, ◌+◌, ◌*◌, ◌<◌, ◌==◌, ◌&&◌, ◌||◌, nat_lt, Bool, true, false, not, if◌then◌else◌, Option, Some, None, List, [], ◌∷◌, get_or, slice_set, filter, map, replicate}
 use Rattle.std.specs.List.{All, list_any, list_all}
 use Rattle.fb_graph.specs.Parity.{is_in}
-use Rattle.fb_book.specs.declared.entries.Kind.{Kind}
-use Rattle.fb_book.specs.declared.entries.Kind.TheVariants.{Took, Gave, Left}
+use Rattle.fb_book.specs.declared.entries.EntryKind.{EntryKind}
+use Rattle.fb_book.specs.declared.entries.EntryKind.TheVariants.{Took, Gave, Left}
 use Rattle.fb_book.specs.declared.entries.Entry.{Entry}
 use Rattle.fb_book.specs.declared.entries.Status.{Status}
 use Rattle.fb_book.specs.declared.entries.Status.TheVariants.{Idle, Held, Given, Used, Left as Lost}
@@ -81,7 +81,7 @@ abbrev pub can_take : Kids → List Status → ℕ → Bool
 can_take kids st k = is_idle (status_at st k) && are_given st (kids k)
 
 -- what a worker may do with the item at this place
-abbrev pub is_permitted : Kids → List Status → Kind → ℕ → ℕ → Bool
+abbrev pub is_permitted : Kids → List Status → EntryKind → ℕ → ℕ → Bool
 is_permitted kids st Took w k = not (list_any is_left st) && can_take kids st k
 is_permitted kids st Gave w k = is_held_by w (status_at st k)
 is_permitted kids st Left w k = is_held_by w (status_at st k)
@@ -91,7 +91,7 @@ with_used None st = st
 with_used (Some pair) st = slice_set (slice_set st pair.0 Used) pair.1 Used
 
 -- the statuses after it
-abbrev pub after : Kids → List Status → Kind → ℕ → ℕ → List Status
+abbrev pub after : Kids → List Status → EntryKind → ℕ → ℕ → List Status
 after kids st Took w k = slice_set (with_used (kids k) st) k (Held w)
 after kids st Gave w k = slice_set st k Given
 after kids st Left w k = slice_set st k Lost
@@ -110,14 +110,14 @@ replay kids n st (e ∷ es) =
     if allows kids n st e then replay kids n (after kids st e.kind e.worker (place n e)) es else None
 
 -- what was done with the item at this place, and by which worker
-abbrev pub trace : ℕ → ℕ → List Entry → List (Kind × ℕ)
+abbrev pub trace : ℕ → ℕ → List Entry → List (EntryKind × ℕ)
 trace n k es = map (λ e. (e.kind, e.worker)) (filter (λ e. place n e == k) es)
 
 -- the statuses at first
 abbrev pub all_idle : ℕ → List Status
 all_idle count = replicate count Idle
 
-abbrev pub is_loss_kind : Kind → Bool
+abbrev pub is_loss_kind : EntryKind → Bool
 is_loss_kind Took = false
 is_loss_kind Gave = false
 is_loss_kind Left = true

@@ -1,5 +1,5 @@
 ghost use Rattle.std.specs.Prelude.{◌≡◌, ◌*◌, ◌^◌, ◌<◌, ◌≤◌, ◌⊎◌, true, false, Some, None, List, [], length, slice_set, replicate, IfOk, IfErr, OnErr, OnOk};
-ghost use Rattle.fb_book.specs.declared.entries.Kind.TheVariants.{Gave, Left};
+ghost use Rattle.fb_book.specs.declared.entries.EntryKind.TheVariants.{Gave, Left};
 ghost use Rattle.fb_book.specs.Machine.{IsForest};
 ghost use Rattle.fb_book.specs.Board.{IsRun, Lets, MustWait, TakesUnit, is_finished, is_starved, item_count, kids_of};
 ghost use Rattle.fb_book.specs.Books.{AreOfChildren, AreRootPieces, AreRoots, HandsOut, IsKept, IsPieceAt, course_of, holds, place_of};

@@ -2,7 +2,7 @@
 
 /// What happened to an item: it was taken, it was given, or it was left for want of memory.
 #[derive(Clone, Copy, PartialEq, Eq)]
-pub enum Kind {
+pub enum EntryKind {
     Took,
     Gave,
     Left,
@@ -11,7 +11,7 @@ pub enum Kind {
 /// One event of a run: what a worker did with the item of this slot and node.
 #[derive(Clone, Copy)]
 pub struct Entry {
-    pub kind: Kind,
+    pub kind: EntryKind,
     pub worker: u32,
     pub slot: u32,
     pub node: u32,

@@ -1,11 +1,11 @@
 ghost use Rattle.std.specs.Prelude.{◌≡◌, ℕ, ◌+◌, ◌*◌, ◌^◌, ◌<◌, ◌⊎◌, true, false, [], length, IfOk};
-ghost use Rattle.fb_book.specs.declared.entries.Kind.TheVariants.{Gave, Left};
+ghost use Rattle.fb_book.specs.declared.entries.EntryKind.TheVariants.{Gave, Left};
 ghost use Rattle.fb_book.specs.declared.items.Item.{Item};
 ghost use Rattle.fb_book.specs.Machine.{IsForest};
 ghost use Rattle.fb_book.specs.Board.{Lets, MustWait, TakesFusion, TakesUnit, children_in, is_finished, is_starved, nodes_of};
 ghost use Rattle.fb_book.specs.InternalBoard.{AreParents, IsCourse, LetsNot, node_limit};
 
-use crate::entries::{Entry, Kind, Status};
+use crate::entries::{Entry, EntryKind, Status};
 use crate::moves::{
     count_of, entry_of, holds, kids_at, let_go, parent_at, place_of, take, takeable_parent,
     unit_after,
@@ -168,7 +168,7 @@ impl Items {
             let Some((left, right)) = kids_at(self.units, self.joins.as_slice(), place) else {
                 unreachable!()
             };
-            let entry = entry_of(Kind::Took, worker, self.nodes, place);
+            let entry = entry_of(EntryKind::Took, worker, self.nodes, place);
             take(
                 &mut self.statuses,
                 &mut self.history,
@@ -187,7 +187,7 @@ impl Items {
         }
         let place = self.next;
         if place < self.statuses.as_slice().len() {
-            let entry = entry_of(Kind::Took, worker, self.nodes, place);
+            let entry = entry_of(EntryKind::Took, worker, self.nodes, place);
             take(&mut self.statuses, &mut self.history, None, place, entry);
             self.next = unit_after(self.units, self.nodes, place);
             return Turn::Unit(Item {
@@ -214,7 +214,7 @@ impl Items {
         }
         let parent = parent_at(self.nodes, self.parents.as_slice(), place);
         let entry = Entry {
-            kind: Kind::Gave,
+            kind: EntryKind::Gave,
             worker,
             slot,
             node,
@@ -249,7 +249,7 @@ impl Items {
             return false;
         }
         let entry = Entry {
-            kind: Kind::Left,
+            kind: EntryKind::Left,
             worker,
             slot,
             node,

@@ -14,7 +14,7 @@ mod ready;
 pub mod tables;
 
 pub use book::{Book, Claim};
-pub use entries::{Entry, Kind, Status};
+pub use entries::{Entry, EntryKind, Status};
 pub use laws::{
     complete_history, entries_of_item, items_of_plan, order_of_nodes, progress, renumbered_slots,
 };

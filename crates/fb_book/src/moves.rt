@@ -5,7 +5,7 @@ ghost use Rattle.fb_book.specs.Machine.{is_idle, is_given, is_held_by, are_given
 ghost use Rattle.fb_book.specs.Board.{kids_in};
 ghost use Rattle.fb_book.specs.InternalBoard.{AreWithin, entry_at, after_unit, parent_place, ready_parent, node_limit};
 
-use crate::entries::{Entry, Kind, Status};
+use crate::entries::{Entry, EntryKind, Status};
 
 /// The places of an item's children; a unit has none.
 pub fn kids_at(units: usize, joins: &[(u32, u32)], place: usize) -> Option<(usize, usize)>
@@ -133,7 +133,7 @@ fn is_held_by(worker: u32, status: Status) -> bool
 }
 
 /// The entry of the item at this place.
-pub fn entry_of(kind: Kind, worker: u32, nodes: usize, place: usize) -> Entry
+pub fn entry_of(kind: EntryKind, worker: u32, nodes: usize, place: usize) -> Entry
     requires some { 0 < nodes }
     requires few { nodes < 2 ^ 32 }
     requires slot { place / nodes < 2 ^ 32 }

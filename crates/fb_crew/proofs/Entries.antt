@@ -1,13 +1,13 @@
 -- A worker's list of entries is that of its seat.
 use Rattle.std.proofs.Common.{ℕ, ◌≡◌, List, [], ◌∷◌, ◌++◌, All, ap, sym, subst, ◌∙◌}
 use Rattle.std.proofs.lemmas.List.Elements.{All-nil, All-push}
-use Rattle.fb_book.specs.declared.entries.Kind.{Kind}
-use Rattle.fb_book.specs.declared.entries.Kind.TheVariants.{Took, Gave, Left}
+use Rattle.fb_book.specs.declared.entries.EntryKind.{EntryKind}
+use Rattle.fb_book.specs.declared.entries.EntryKind.TheVariants.{Took, Gave, Left}
 use Rattle.fb_book.specs.declared.entries.Entry.{Entry}
 use Rattle.fb_hands.specs.Gates.{HasPassed}
 use Rattle.fb_slots.specs.Seats.{SeatValue, seat_that_claimed, seat_that_gave, seat_that_left, seat_that_took, seat_with_entry}
 
-pub entry_more : (kind : Kind) (slot node w : ℕ) (s : SeatValue) (old new : List Entry) (e : Entry) → w ≡ s.worker → old ≡ s.entries
+pub entry_more : (kind : EntryKind) (slot node w : ℕ) (s : SeatValue) (old new : List Entry) (e : Entry) → w ≡ s.worker → old ≡ s.entries
     → e ≡ record { kind = kind; worker = w; slot = slot; node = node } → new ≡ old ++ e ∷ [] → new ≡ (seat_with_entry kind slot node s).entries
 entry_more kind slot node w s old new e by same is more =
     let entry : ℕ → Entry = λ x. record { kind = kind; worker = x; slot = slot; node = node } in

@@ -7,15 +7,15 @@ use Rattle.std.proofs.Math.Nat.{eq-or-lt_of_le}
 use Rattle.std.proofs.lemmas.Nat.{mul-add-lt}
 use Rattle.std.proofs.lemmas.List.Elements.{All-nil, All-cons, All-head, All-tail}
 use Rattle.fb_graph.proofs.Sets.{rising-cons, rising-nil, rising-one, rising-tail}
-use Rattle.fb_book.specs.declared.entries.Kind.{Kind}
-use Rattle.fb_book.specs.declared.entries.Kind.TheVariants.{Took, Gave, Left}
+use Rattle.fb_book.specs.declared.entries.EntryKind.{EntryKind}
+use Rattle.fb_book.specs.declared.entries.EntryKind.TheVariants.{Took, Gave, Left}
 use Rattle.fb_book.specs.declared.entries.Entry.{Entry}
 use Rattle.fb_book.specs.declared.entries.Status.{Status}
 use Rattle.fb_book.specs.Laws.{renumbered_entry}
 use Rattle.fb_book.specs.Machine.{Kids, after, allows, is_permitted, place, replay}
 use Rattle.fb_slots.specs.Ordered.{IsByItem, rank, rank_of}
 
-rank_few : (kind : Kind) → rank_of kind ≤ 1
+rank_few : (kind : EntryKind) → rank_of kind ≤ 1
 rank_few Took = omega arith
 rank_few Gave = omega arith
 rank_few Left = omega arith

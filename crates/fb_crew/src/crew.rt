@@ -16,7 +16,7 @@ use crate::finished::{Finished, Worked};
 use crate::worker::Worker;
 use fb_book::{Board, Entry, MOST_WORKERS, Piece};
 use fb_graph::{NoMemory, Shot};
-use fb_hands::{Bench, Gate, Hands};
+use fb_hands::{Gate, Hands, ItemRunner};
 use fb_plan::Job;
 use fb_slots::{SlotBook, SlotSeat};
 use std::alloc::Global;
@@ -26,23 +26,23 @@ use std::thread::Threads;
 
 /// A worker with its tools.
 #[derive(Drop)]
-struct Member<P: Piece, T: Drop, N: Board> {
+struct EquippedWorker<P: Piece, T: Drop, N: Board> {
     worker: Worker<P, N>,
     tools: T,
 }
 
-impl<P: Piece, T: Drop, N: Board> Member<P, T, N> {
+impl<P: Piece, T: Drop, N: Board> EquippedWorker<P, T, N> {
     /// Does items until no unit is left.
     fn work<H: Hands<P, T>, G: Gate>(
         mut self,
         board: &SlotBook<P, N>,
-        bench: &Bench<'_, H, G>,
-    ) -> Result<Member<P, T, N>, NoMemory>
-        requires hands { H.job bench.now.hands.now ≡ N.job }
+        runner: &ItemRunner<'_, H, G>,
+    ) -> Result<EquippedWorker<P, T, N>, NoMemory>
+        requires hands { H.job runner.now.hands.now ≡ N.job }
         requires new { IsNew board.now self.worker.seat }
-        ensures { IfOk result (λ m. IsEnded board.now (G.passed bench.now.gate.now) m.worker.seat) }
+        ensures { IfOk result (λ m. IsEnded board.now (G.passed runner.now.gate.now) m.worker.seat) }
     {
-        self.worker.work(board, bench, &mut self.tools)?;
+        self.worker.work(board, runner, &mut self.tools)?;
         Ok(self)
     }
 }
@@ -62,7 +62,7 @@ fn seat_members<P: Piece, T: Drop, N: Board>(
     board: &SlotBook<P, N>,
     mut seats: Vec<SlotSeat<P, N>>,
     tools: &mut Vec<T>,
-) -> Result<Vec<Member<P, T, N>>, NoMemory>
+) -> Result<Vec<EquippedWorker<P, T, N>>, NoMemory>
     requires new { All (IsNew board.now) seats.items }
     requires tools { length seats.items ≤ length tools.old.items }
     ensures new { IfOk result (λ members. All (λ m. IsNew board.now m.worker.seat) members.items) }
@@ -76,28 +76,28 @@ fn seat_members<P: Piece, T: Drop, N: Board>(
             unreachable!()
         };
         let worker = Worker::new(alloc, seat);
-        members.push(Member { worker, tools })?;
+        members.push(EquippedWorker { worker, tools })?;
     }
     Ok(members)
 }
 
 /// Takes members apart that have ended, and puts their tools to the others.
 fn take_apart<P: Piece, T: Drop, H, G: Gate, N: Board>(
-    bench: &Bench<'_, H, G>,
+    runner: &ItemRunner<'_, H, G>,
     board: &SlotBook<P, N>,
-    mut members: Vec<Member<P, T, N>>,
+    mut members: Vec<EquippedWorker<P, T, N>>,
     mut tools: Vec<T>,
 ) -> Result<Left<P, T, N>, NoMemory>
-    requires ended { All (λ m. IsEnded board.now (G.passed bench.now.gate.now) m.worker.seat) members.items }
-    ensures ended { IfOk result (λ left. All (IsEnded board.now (G.passed bench.now.gate.now)) left.seats.items) }
+    requires ended { All (λ m. IsEnded board.now (G.passed runner.now.gate.now) m.worker.seat) members.items }
+    ensures ended { IfOk result (λ left. All (IsEnded board.now (G.passed runner.now.gate.now)) left.seats.items) }
     ensures count { IfOk result (λ left. length left.seats.items ≡ length members.items) }
     ensures tools { IfOk result (λ left. length left.tools.items ≡ length tools.items + length members.items) }
 {
     let _board = board;
-    let mut seats = Vec::with_capacity(bench.alloc, members.len())?;
-    let mut entries = Vec::new(bench.alloc);
+    let mut seats = Vec::with_capacity(runner.alloc, members.len())?;
+    let mut entries = Vec::new(runner.alloc);
     while let Some(member) = members.pop() {
-        let Member {
+        let EquippedWorker {
             worker,
             tools: tool,
         } = member;
@@ -120,8 +120,8 @@ fn take_apart<P: Piece, T: Drop, H, G: Gate, N: Board>(
 /// The last member, and the others.
 fn pop_member<P: Piece, T: Drop, N: Board>(
     board: &SlotBook<P, N>,
-    members: &mut Vec<Member<P, T, N>>,
-) -> Option<Member<P, T, N>>
+    members: &mut Vec<EquippedWorker<P, T, N>>,
+) -> Option<EquippedWorker<P, T, N>>
     requires { All (λ m. IsNew board.now m.worker.seat) members.old.items }
     ensures last { IfSome result (λ m. IsNew board.now m.worker.seat) }
     ensures others { All (λ m. IsNew board.now m.worker.seat) members.new.items }
@@ -135,18 +135,18 @@ fn pop_member<P: Piece, T: Drop, N: Board>(
 
 /// The members with one more, if memory sufficed for all of them.
 fn join_member<P: Piece, T: Drop, H, G: Gate, N: Board>(
-    bench: &Bench<'_, H, G>,
+    runner: &ItemRunner<'_, H, G>,
     board: &SlotBook<P, N>,
-    members: Result<Vec<Member<P, T, N>>, NoMemory>,
-    member: Result<Member<P, T, N>, NoMemory>,
-) -> Result<Vec<Member<P, T, N>>, NoMemory>
-    requires members { IfOk members (λ ms. All (λ m. IsEnded board.now (G.passed bench.now.gate.now) m.worker.seat) ms.items) }
-    requires member { IfOk member (λ m. IsEnded board.now (G.passed bench.now.gate.now) m.worker.seat) }
-    ensures ended { IfOk result (λ ms. All (λ m. IsEnded board.now (G.passed bench.now.gate.now) m.worker.seat) ms.items) }
+    members: Result<Vec<EquippedWorker<P, T, N>>, NoMemory>,
+    member: Result<EquippedWorker<P, T, N>, NoMemory>,
+) -> Result<Vec<EquippedWorker<P, T, N>>, NoMemory>
+    requires members { IfOk members (λ ms. All (λ m. IsEnded board.now (G.passed runner.now.gate.now) m.worker.seat) ms.items) }
+    requires member { IfOk member (λ m. IsEnded board.now (G.passed runner.now.gate.now) m.worker.seat) }
+    ensures ended { IfOk result (λ ms. All (λ m. IsEnded board.now (G.passed runner.now.gate.now) m.worker.seat) ms.items) }
     ensures count { MatchResult members (λ others. IfOk result (λ ms. length ms.items ≡ length others.items + 1))
         (λ e. result ≡ Err e) }
 {
-    let (_bench, _board) = (bench, board);
+    let (_bench, _board) = (runner, board);
     let mut members = members?;
     members.push(member?)?;
     Ok(members)
@@ -166,33 +166,33 @@ fn work_each<
 >(
     rt: &R,
     board: &SlotBook<P, N>,
-    bench: &Bench<'_, H, G>,
-    mut members: Vec<Member<P, T, N>>,
-) -> Result<Vec<Member<P, T, N>>, NoMemory>
-    requires hands { H.job bench.now.hands.now ≡ N.job }
+    runner: &ItemRunner<'_, H, G>,
+    mut members: Vec<EquippedWorker<P, T, N>>,
+) -> Result<Vec<EquippedWorker<P, T, N>>, NoMemory>
+    requires hands { H.job runner.now.hands.now ≡ N.job }
     requires new { All (λ m. IsNew board.now m.worker.seat) members.items }
-    ensures ended { IfOk result (λ ms. All (λ m. IsEnded board.now (G.passed bench.now.gate.now) m.worker.seat) ms.items) }
+    ensures ended { IfOk result (λ ms. All (λ m. IsEnded board.now (G.passed runner.now.gate.now) m.worker.seat) ms.items) }
     ensures count { IfOk result (λ ms. length ms.items ≡ length members.items) }
 {
     let Some(member) = pop_member(board, &mut members) else {
         return Ok(members);
     };
     if members.is_empty() {
-        return join_member(bench, board, Ok(members), member.work(board, bench));
+        return join_member(runner, board, Ok(members), member.work(board, runner));
     }
-    let last = move || -> Result<Member<P, T, N>, NoMemory>
-        requires { (H.job bench.now.hands.now ≡ N.job) × IsNew board.now member.worker.seat }
-        ensures { IfOk result (λ m. IsEnded board.entry.now (G.passed bench.entry.now.gate.now) m.worker.seat) }
-    { member.work(board, bench) };
-    let others = move || -> Result<Vec<Member<P, T, N>>, NoMemory>
-        requires { IsSync R.row × (H.job bench.now.hands.now ≡ N.job)
+    let last = move || -> Result<EquippedWorker<P, T, N>, NoMemory>
+        requires { (H.job runner.now.hands.now ≡ N.job) × IsNew board.now member.worker.seat }
+        ensures { IfOk result (λ m. IsEnded board.entry.now (G.passed runner.entry.now.gate.now) m.worker.seat) }
+    { member.work(board, runner) };
+    let others = move || -> Result<Vec<EquippedWorker<P, T, N>>, NoMemory>
+        requires { IsSync R.row × (H.job runner.now.hands.now ≡ N.job)
             × All (λ m. IsNew board.now m.worker.seat) members.items }
-        ensures { IfOk result (λ ms. All (λ m. IsEnded board.entry.now (G.passed bench.entry.now.gate.now) m.worker.seat)
+        ensures { IfOk result (λ ms. All (λ m. IsEnded board.entry.now (G.passed runner.entry.now.gate.now) m.worker.seat)
             ms.items)
             × IfOk result (λ ms. length ms.items ≡ length members.items) }
-    { work_each(rt, board, bench, members) };
+    { work_each(rt, board, runner, members) };
     let (member, members) = thread::join(rt, last, others);
-    join_member(bench, board, members, member)
+    join_member(runner, board, members, member)
 }
 
 /// The number of defects of a job for which one more worker is used, so that a job of few defects starts no threads that
@@ -238,12 +238,12 @@ fn run_all<
     R: Threads + Sync,
 >(
     rt: &R,
-    bench: &Bench<'_, H, G>,
+    runner: &ItemRunner<'_, H, G>,
     job: &Job<'_>,
     beside: u32,
     mut tools: Vec<T>,
 ) -> Result<Worked<P, T>, NoMemory>
-    requires hands { H.job bench.now.hands.now ≡ N.job }
+    requires hands { H.job runner.now.hands.now ≡ N.job }
     requires job { N.job ≡ job.now }
     requires workers { N.workers ≡ beside }
     requires tools { beside < length tools.items }
@@ -252,20 +252,20 @@ fn run_all<
     ensures order { IfOk result (λ w. IsByItem (node_count N.job.plan) w.run.history) }
     ensures seats { IfOk result (λ w. w.run.seats ≡ N.workers + 1) }
     ensures workers { IfOk result (λ w. All (λ e. e.worker ≤ N.workers) w.run.history) }
-    ensures passed { IfOk result (λ w. All (HasPassed (G.passed bench.now.gate.now)) w.run.history) }
+    ensures passed { IfOk result (λ w. All (HasPassed (G.passed runner.now.gate.now)) w.run.history) }
     ensures made { IfOk result (λ w. w.made ≡ length w.run.history) }
     ensures tools { IfOk result (λ w. length w.tools.items ≡ length tools.items) }
 {
-    let (board, seats) = SlotBook::<P, N>::new(bench.alloc, job, beside)?;
-    let members = seat_members(bench.alloc, &board, seats, &mut tools)?;
-    let members = work_each(rt, &board, bench, members)?;
+    let (board, seats) = SlotBook::<P, N>::new(runner.alloc, job, beside)?;
+    let members = seat_members(runner.alloc, &board, seats, &mut tools)?;
+    let members = work_each(rt, &board, runner, members)?;
     let Left {
         seats,
         tools,
         entries,
         ..
-    } = take_apart(bench, &board, members, tools)?;
-    let Finished { run, made } = finish(bench, job, board, seats, entries.as_slice())?;
+    } = take_apart(runner, &board, members, tools)?;
+    let Finished { run, made } = finish(runner, job, board, seats, entries.as_slice())?;
     Ok(Worked { run, made, tools })
 }
 
@@ -296,7 +296,7 @@ pub fn work_all<P: Piece + Send + Sync, T: Send + Drop, H: Hands<P, T>, G: Gate,
     ensures made { IfOk result (λ w. w.made ≡ length w.run.history) }
     ensures tools { IfOk result (λ w. length w.tools.items ≡ workers) }
 {
-    let bench = Bench { alloc, hands, gate };
+    let runner = ItemRunner { alloc, hands, gate };
     let beside = worker_count(job, workers) - 1;
-    run_all::<P, T, H, G, Brand, R>(rt, &bench, job, beside, tools)
+    run_all::<P, T, H, G, Brand, R>(rt, &runner, job, beside, tools)
 }

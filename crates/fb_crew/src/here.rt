@@ -12,7 +12,7 @@ use crate::finished::Finished;
 use crate::worker::Worker;
 use fb_book::{Board, Piece};
 use fb_graph::NoMemory;
-use fb_hands::{Bench, Gate, Hands, OpenGate};
+use fb_hands::{Gate, Hands, ItemRunner, OpenGate};
 use fb_plan::Job;
 use fb_slots::SlotBook;
 use std::alloc::Global;
@@ -20,11 +20,11 @@ use std::marker::Brand;
 
 /// Does all items as worker 0, in a run with no worker beside the caller.
 fn run_here<P: Piece, T, H: Hands<P, T>, G: Gate, N: Board>(
-    bench: &Bench<'_, H, G>,
+    runner: &ItemRunner<'_, H, G>,
     job: &Job<'_>,
     tools: &mut T,
 ) -> Result<Finished<P>, NoMemory>
-    requires hands { H.job bench.now.hands.now ≡ N.job }
+    requires hands { H.job runner.now.hands.now ≡ N.job }
     requires job { N.job ≡ job.now }
     requires workers { N.workers ≡ 0 }
     ensures roots { IfOk result (λ w. AreRootPieces P.job_of P.slot_of P.node_of P.made_of N.job w.run.roots) }
@@ -32,18 +32,18 @@ fn run_here<P: Piece, T, H: Hands<P, T>, G: Gate, N: Board>(
     ensures order { IfOk result (λ w. IsByItem (node_count N.job.plan) w.run.history) }
     ensures seats { IfOk result (λ w. w.run.seats ≡ N.workers + 1) }
     ensures workers { IfOk result (λ w. All (λ e. e.worker ≤ N.workers) w.run.history) }
-    ensures passed { IfOk result (λ w. All (HasPassed (G.passed bench.now.gate.now)) w.run.history) }
+    ensures passed { IfOk result (λ w. All (HasPassed (G.passed runner.now.gate.now)) w.run.history) }
     ensures made { IfOk result (λ w. w.made ≡ length w.run.history) }
 {
-    let (board, mut seats) = SlotBook::<P, N>::new(bench.alloc, job, 0)?;
+    let (board, mut seats) = SlotBook::<P, N>::new(runner.alloc, job, 0)?;
     let Some(seat) = seats.pop() else {
         unreachable!()
     };
-    let mut worker = Worker::new(bench.alloc, seat);
-    worker.work(&board, bench, tools)?;
+    let mut worker = Worker::new(runner.alloc, seat);
+    worker.work(&board, runner, tools)?;
     let Worker { seat, entries, .. } = worker;
     seats.push_reserved(seat);
-    finish(bench, job, board, seats, entries.as_slice())
+    finish(runner, job, board, seats, entries.as_slice())
 }
 
 /// Does all items of the job on the calling thread, as worker 0.
@@ -61,10 +61,10 @@ pub fn work_here<P: Piece, T, H: Hands<P, T>>(
     ensures workers { IfOk result (λ w. All (λ e. e.worker ≡ 0) w.run.history) }
     ensures made { IfOk result (λ w. w.made ≡ length w.run.history) }
 {
-    let bench = Bench {
+    let runner = ItemRunner {
         alloc,
         hands,
         gate: &OpenGate,
     };
-    run_here::<P, T, H, OpenGate, Brand>(&bench, job, tools)
+    run_here::<P, T, H, OpenGate, Brand>(&runner, job, tools)
 }

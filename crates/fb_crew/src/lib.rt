@@ -14,7 +14,7 @@ pub mod window;
 mod worker;
 
 pub use crew::work_all;
-pub use fb_book::{Entry, Kind};
+pub use fb_book::{Entry, EntryKind};
 pub use fb_hands::{Gate, Hands, OpenGate};
 pub use fb_slots::Run;
 pub use finished::{Finished, Worked};

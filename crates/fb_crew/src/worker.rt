@@ -6,10 +6,10 @@ ghost use Rattle.fb_hands.specs.Gates.{HasPassed};
 ghost use Rattle.fb_slots.specs.Seats.{seat_that_claimed, seat_that_gave, seat_that_left, seat_that_took};
 ghost use Rattle.fb_crew.specs.InternalSeats.{IsEnded};
 
-use fb_book::{Board, Entry, Kind, Piece};
+use fb_book::{Board, Entry, EntryKind, Piece};
 use fb_graph::NoMemory;
-use fb_hands::{Bench, Gate, Hands, Item};
-use fb_slots::{After, SlotBook, SlotSeat, Taken, Ticket};
+use fb_hands::{Gate, Hands, Item, ItemRunner};
+use fb_slots::{After, Claimed, SlotBook, SlotSeat, Ticket};
 use std::alloc::Global;
 
 /// A worker's seat, and the list of what it did. The list has room for the next entries before the board is asked.
@@ -21,7 +21,7 @@ pub(crate) struct Worker<P: Piece, N: Board> {
 }
 
 /// That this worker did this with the ticket's item.
-fn entry_of<N: Board>(kind: Kind, worker: u32, ticket: &Ticket<N>) -> Entry
+fn entry_of<N: Board>(kind: EntryKind, worker: u32, ticket: &Ticket<N>) -> Entry
     ensures { result ≡ record { kind = kind; worker = worker; slot = ticket.now.slot; node = ticket.now.node } }
 {
     Entry {
@@ -58,26 +58,26 @@ impl<P: Piece, N: Board> Worker<P, N> {
     }
 
     /// Takes the next unit, if one is left.
-    fn claim(&mut self, board: &SlotBook<P, N>) -> Taken<N>
+    fn claim(&mut self, board: &SlotBook<P, N>) -> Claimed<N>
         requires own { self.old.seat.board ≡ board.now }
         requires open { self.old.seat.ends ≡ 0 }
         requires free { self.old.seat.held ≡ None }
         requires room { length self.old.entries.items + 1 < vec_capacity self.old.entries }
-        ensures unit { (ticket : _) → result ≡ Taken.Unit ticket → (ticket.node < N.job.plan.units)
+        ensures unit { (ticket : _) → result ≡ Claimed.Unit ticket → (ticket.node < N.job.plan.units)
             × (self.new.seat ≡ seat_that_claimed ticket.slot ticket.node self.old.seat) }
-        ensures left { (ticket : _) → result ≡ Taken.Unit ticket
+        ensures left { (ticket : _) → result ≡ Claimed.Unit ticket
             → self.old.seat.claimed < length N.job.shots * N.job.plan.units }
-        ensures over { result ≡ Taken.Over → self.new.seat ≡ record self.old.seat { ends = 1 } }
+        ensures over { result ≡ Claimed.Over → self.new.seat ≡ record self.old.seat { ends = 1 } }
         ensures room { length self.new.entries.items < vec_capacity self.new.entries }
     {
         let Worker { seat, entries, .. } = self;
         let worker = seat.worker();
         match board.claim(seat) {
-            Taken::Unit(ticket) => {
-                entries.push_reserved(entry_of(Kind::Took, worker, &ticket));
-                Taken::Unit(ticket)
+            Claimed::Unit(ticket) => {
+                entries.push_reserved(entry_of(EntryKind::Took, worker, &ticket));
+                Claimed::Unit(ticket)
             }
-            Taken::Over => Taken::Over,
+            Claimed::Over => Claimed::Over,
         }
     }
 
@@ -99,7 +99,7 @@ impl<P: Piece, N: Board> Worker<P, N> {
     {
         let Worker { seat, entries, .. } = self;
         let worker = seat.worker();
-        let gave = entry_of(Kind::Gave, worker, &ticket);
+        let gave = entry_of(EntryKind::Gave, worker, &ticket);
         match board.post(seat, ticket, piece) {
             After::Done => {
                 entries.push_reserved(gave);
@@ -107,7 +107,7 @@ impl<P: Piece, N: Board> Worker<P, N> {
             }
             After::Fusion(next, left, right) => {
                 entries.push_reserved(gave);
-                entries.push_reserved(entry_of(Kind::Took, worker, &next));
+                entries.push_reserved(entry_of(EntryKind::Took, worker, &next));
                 After::Fusion(next, left, right)
             }
         }
@@ -121,7 +121,7 @@ impl<P: Piece, N: Board> Worker<P, N> {
         ensures { self.new.seat ≡ seat_that_left ticket.slot ticket.node self.old.seat }
     {
         let Worker { seat, entries, .. } = self;
-        let left = entry_of(Kind::Left, seat.worker(), &ticket);
+        let left = entry_of(EntryKind::Left, seat.worker(), &ticket);
         board.starve(seat, ticket);
         entries.push_reserved(left);
     }
@@ -131,24 +131,24 @@ impl<P: Piece, N: Board> Worker<P, N> {
     fn climb<T, H: Hands<P, T>, G: Gate>(
         &mut self,
         board: &SlotBook<P, N>,
-        bench: &Bench<'_, H, G>,
+        runner: &ItemRunner<'_, H, G>,
         tools: &mut T,
         ticket: Ticket<N>,
     ) -> Result<(), NoMemory>
-        requires job { H.job bench.now.hands.now ≡ N.job }
+        requires job { H.job runner.now.hands.now ≡ N.job }
         requires own { self.old.seat.board ≡ board.now }
         requires held { self.old.seat.held ≡ Some (ticket.slot, ticket.node) }
         requires unit { ticket.node < N.job.plan.units }
         requires room { length self.old.entries.items < vec_capacity self.old.entries }
-        requires came { All (HasPassed (G.passed bench.now.gate.now)) self.old.seat.entries }
-        ensures came { All (HasPassed (G.passed bench.now.gate.now)) self.new.seat.entries }
+        requires came { All (HasPassed (G.passed runner.now.gate.now)) self.old.seat.entries }
+        ensures came { All (HasPassed (G.passed runner.now.gate.now)) self.new.seat.entries }
         ensures own { self.new.seat.board ≡ self.old.seat.board }
         ensures free { self.new.seat.held ≡ None }
         ensures same { OnOk result ((self.new.seat.ends ≡ self.old.seat.ends)
             × (self.new.seat.claimed ≡ self.old.seat.claimed)) }
     {
         let mut ticket = ticket;
-        let mut piece = bench.unit::<P, T, N>(tools, self.item_of(&ticket));
+        let mut piece = runner.unit::<P, T, N>(tools, self.item_of(&ticket));
         loop {
             let Ok(made) = piece else {
                 self.starve(board, ticket);
@@ -162,7 +162,7 @@ impl<P: Piece, N: Board> Worker<P, N> {
                 After::Done => return Ok(()),
                 After::Fusion(next, left, right) => {
                     let item = self.item_of(&next);
-                    piece = bench.fusion::<P, T, N>(tools, item, left, right);
+                    piece = runner.fusion::<P, T, N>(tools, item, left, right);
                     ticket = next;
                 }
             }
@@ -173,23 +173,23 @@ impl<P: Piece, N: Board> Worker<P, N> {
     pub fn work<T, H: Hands<P, T>, G: Gate>(
         &mut self,
         board: &SlotBook<P, N>,
-        bench: &Bench<'_, H, G>,
+        runner: &ItemRunner<'_, H, G>,
         tools: &mut T,
     ) -> Result<(), NoMemory>
-        requires job { H.job bench.now.hands.now ≡ N.job }
+        requires job { H.job runner.now.hands.now ≡ N.job }
         requires own { self.old.seat.board ≡ board.now }
         requires open { self.old.seat.ends ≡ 0 }
         requires free { self.old.seat.held ≡ None }
         requires new { self.old.seat.entries ≡ [] }
         ensures free { self.new.seat.held ≡ None }
-        ensures ended { OnOk result (IsEnded board.now (G.passed bench.now.gate.now) self.new.seat) }
+        ensures ended { OnOk result (IsEnded board.now (G.passed runner.now.gate.now) self.new.seat) }
     {
         loop {
             self.entries.reserve(2)?;
-            let Taken::Unit(ticket) = self.claim(board) else {
+            let Claimed::Unit(ticket) = self.claim(board) else {
                 return Ok(());
             };
-            self.climb(board, bench, tools, ticket)?;
+            self.climb(board, runner, tools, ticket)?;
         }
     }
 }

@@ -5,8 +5,8 @@ use Rattle.std.proofs.lemmas.List.{length-append, length-replicate}
 use Rattle.std.specs.List.{list_any}
 use Rattle.std.specs.Prelude.{Result, Ok, OnOk}
 use Rattle.fb_plan.specs.Plans.{JobValue}
-use Rattle.fb_book.specs.declared.entries.Kind.{Kind}
-use Rattle.fb_book.specs.declared.entries.Kind.TheVariants.{Took, Gave}
+use Rattle.fb_book.specs.declared.entries.EntryKind.{EntryKind}
+use Rattle.fb_book.specs.declared.entries.EntryKind.TheVariants.{Took, Gave}
 use Rattle.fb_book.specs.declared.entries.Entry.{Entry}
 use Rattle.fb_book.specs.declared.entries.Status.{Status}
 use Rattle.fb_book.specs.declared.entries.Status.TheVariants.{Idle, Given, Used}
@@ -19,7 +19,7 @@ use Rattle.fb_book.proofs.Statuses.{IsSetAt, here, there, IsTakenAt, taken, used
 use Rattle.fb_book.proofs.Waiting.{Added, added}
 use Rattle.fb_desk.specs.InternalQuiet.{IsQuiet}
 
-pub one_more : (job : JobValue) (old new : List Entry) (kind : Kind) (w s n : ℕ)
+pub one_more : (job : JobValue) (old new : List Entry) (kind : EntryKind) (w s n : ℕ)
     → Adds (course_of job old) (course_of job new) kind w s n → length new ≡ length old + 1
 one_more job old new kind w s n a =
     ap (λ c. length c.history) a.entry

@@ -7,7 +7,7 @@ use crate::items::item_of;
 use crate::locked::Locked;
 use crate::seat::Seat;
 use fb_book::{Board, Book, Claim, Permit, Piece};
-use fb_hands::{Bench, Gate, Hands};
+use fb_hands::{Gate, Hands, ItemRunner};
 use std::sync::{Condvar, Mutex, Wait, ledger};
 
 /// The book of a run under a lock, and the signal that an item was posted or left.
@@ -80,22 +80,22 @@ impl<P: Piece, N: Board> Desk<P, N> {
     fn turn<T: Drop, H: Hands<P, T>, G: Gate, R: Wait>(
         &self,
         rt: &R,
-        bench: &Bench<'_, H, G>,
+        runner: &ItemRunner<'_, H, G>,
         seat: &mut Seat<T, N>,
     ) -> bool
-        requires { H.job bench.now.hands.now ≡ N.job }
+        requires { H.job runner.now.hands.now ≡ N.job }
         ensures { seat.new.worker ≡ seat.old.worker }
     {
         match self.claim(rt, seat) {
             Claim::Unit(permit) => {
-                let Ok(piece) = bench.unit::<P, T, N>(&mut seat.tools, item_of(&permit)) else {
+                let Ok(piece) = runner.unit::<P, T, N>(&mut seat.tools, item_of(&permit)) else {
                     self.starve(rt, seat, permit);
                     return false;
                 };
                 self.post(rt, seat, permit, piece)
             }
             Claim::Fusion(permit, left, right) => {
-                let Ok(piece) = bench.fusion::<P, T, N>(
+                let Ok(piece) = runner.fusion::<P, T, N>(
                     &mut seat.tools,
                     item_of(&permit),
                     left,
@@ -115,14 +115,14 @@ impl<P: Piece, N: Board> Desk<P, N> {
     pub fn work<T: Drop, H: Hands<P, T>, G: Gate, R: Wait>(
         &self,
         rt: &R,
-        bench: &Bench<'_, H, G>,
+        runner: &ItemRunner<'_, H, G>,
         mut seat: Seat<T, N>,
     ) -> Seat<T, N>
-        requires { H.job bench.now.hands.now ≡ N.job }
+        requires { H.job runner.now.hands.now ≡ N.job }
         ensures { result.worker ≡ seat.worker }
     {
         for _ in rt.forever() {
-            if !self.turn(rt, bench, &mut seat) {
+            if !self.turn(rt, runner, &mut seat) {
                 return seat;
             }
         }

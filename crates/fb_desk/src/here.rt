@@ -1,7 +1,7 @@
 //! All items of a job on the calling thread.
 
 ghost use Rattle.std.specs.Prelude.{◌≡◌, ◌+◌, ◌≤◌, true, length, All, IfOk, OnOk, Ok};
-ghost use Rattle.fb_book.specs.declared.entries.Kind.TheVariants.{Gave};
+ghost use Rattle.fb_book.specs.declared.entries.EntryKind.TheVariants.{Gave};
 ghost use Rattle.fb_book.specs.Board.{Lets, is_finished};
 ghost use Rattle.fb_book.specs.Books.{AreRootPieces, IsPieceAt, course_of, holds, place_of};
 ghost use Rattle.fb_hands.specs.Jobs.{IsCompleteOf};
@@ -12,14 +12,14 @@ use crate::items::item_of;
 use fb_book::{Board, Book, Claim, Permit, Piece, complete_history};
 use fb_graph::NoMemory;
 use fb_half::both::both;
-use fb_hands::{Bench, Gate, Hands, OpenGate};
+use fb_hands::{Gate, Hands, ItemRunner, OpenGate};
 use fb_plan::Job;
 use std::alloc::Global;
 use std::marker::Brand;
 
 /// Whether a turn did an item, or found none that can be taken.
 #[derive(Clone, Copy)]
-pub(crate) enum Turn {
+pub(crate) enum Progress {
     Done,
     NoItem,
 }
@@ -29,65 +29,65 @@ fn give<P: Piece, N: Board>(
     book: &mut Book<P, N>,
     permit: Permit<N>,
     piece: Result<P, NoMemory>,
-) -> Result<Turn, NoMemory>
+) -> Result<Progress, NoMemory>
     requires piece { IfOk piece (IsPieceAt P.job_of P.slot_of P.node_of P.made_of N.job
         (place_of N.job permit.slot permit.node)) }
     requires held { holds N.job book.old.0 permit.worker permit.slot permit.node ≡ true }
-    ensures done { IfOk result (λ turn. turn ≡ Turn.Done) }
+    ensures done { IfOk result (λ turn. turn ≡ Progress.Done) }
     ensures gave { OnOk result (Lets (course_of N.job book.old.0) (course_of N.job book.new.0)
         Gave permit.worker permit.slot permit.node) }
 {
     let Ok(()) = book.post(permit, piece?) else {
         unreachable!()
     };
-    Ok(Turn::Done)
+    Ok(Progress::Done)
 }
 
 /// Does the next item that can be taken, if there is one.
 pub(crate) fn next_item<P: Piece, T, H: Hands<P, T>, G: Gate, N: Board>(
-    bench: &Bench<'_, H, G>,
+    runner: &ItemRunner<'_, H, G>,
     book: &mut Book<P, N>,
     worker: u32,
     tools: &mut T,
-) -> Result<Turn, NoMemory>
-    requires job { H.job bench.now.hands.now ≡ N.job }
+) -> Result<Progress, NoMemory>
+    requires job { H.job runner.now.hands.now ≡ N.job }
     requires worker { worker ≤ N.workers }
-    ensures longer { result ≡ Ok Turn.Done → length book.new.0 ≡ length book.old.0 + 2 }
-    ensures quiet { result ≡ Ok Turn.Done → IsQuiet (course_of N.job book.old.0) → IsQuiet (course_of N.job book.new.0) }
-    ensures finished { result ≡ Ok Turn.NoItem → IsQuiet (course_of N.job book.old.0)
+    ensures longer { result ≡ Ok Progress.Done → length book.new.0 ≡ length book.old.0 + 2 }
+    ensures quiet { result ≡ Ok Progress.Done → IsQuiet (course_of N.job book.old.0) → IsQuiet (course_of N.job book.new.0) }
+    ensures finished { result ≡ Ok Progress.NoItem → IsQuiet (course_of N.job book.old.0)
         → is_finished (course_of N.job book.new.0) ≡ true }
-    ensures same { result ≡ Ok Turn.NoItem → book.new ≡ book.old }
+    ensures same { result ≡ Ok Progress.NoItem → book.new ≡ book.old }
 {
     book.keeps();
     match book.claim(worker) {
         Claim::Unit(permit) => {
-            let piece = bench.unit::<P, T, N>(tools, item_of(&permit));
+            let piece = runner.unit::<P, T, N>(tools, item_of(&permit));
             give(book, permit, piece)
         }
         Claim::Fusion(permit, left, right) => {
-            let piece = bench.fusion::<P, T, N>(tools, item_of(&permit), left, right);
+            let piece = runner.fusion::<P, T, N>(tools, item_of(&permit), left, right);
             give(book, permit, piece)
         }
-        Claim::NotYet => Ok(Turn::NoItem),
-        Claim::Over => Ok(Turn::NoItem),
+        Claim::NotYet => Ok(Progress::NoItem),
+        Claim::Over => Ok(Progress::NoItem),
     }
 }
 
 /// Does items as this worker until none can be taken. Returns how many events it has made.
 pub(crate) fn drain<P: Piece, T, H: Hands<P, T>, G: Gate, N: Board>(
-    bench: &Bench<'_, H, G>,
+    runner: &ItemRunner<'_, H, G>,
     book: &mut Book<P, N>,
     worker: u32,
     tools: &mut T,
 ) -> Result<u64, NoMemory>
-    requires job { H.job bench.now.hands.now ≡ N.job }
+    requires job { H.job runner.now.hands.now ≡ N.job }
     requires worker { worker ≤ N.workers }
     ensures finished { OnOk result (IsQuiet (course_of N.job book.old.0) → is_finished (course_of N.job book.new.0) ≡ true) }
     ensures made { IfOk result (λ made. length book.new.0 ≡ length book.old.0 + made) }
 {
     let mut made = 0;
     loop {
-        let Turn::Done = next_item(bench, book, worker, tools)? else {
+        let Progress::Done = next_item(runner, book, worker, tools)? else {
             return Ok(made);
         };
         book.keeps();
@@ -116,12 +116,12 @@ pub(crate) fn finish<P: Piece, N: Board>(book: Book<P, N>, made: u64) -> Finishe
 
 /// Does all items as worker 0, in a run of this number of workers.
 pub(crate) fn run_here<P: Piece, T, H: Hands<P, T>, G: Gate, N: Board>(
-    bench: &Bench<'_, H, G>,
+    runner: &ItemRunner<'_, H, G>,
     job: &Job<'_>,
     workers: u32,
     tools: &mut T,
 ) -> Result<Finished<P>, NoMemory>
-    requires hands { H.job bench.now.hands.now ≡ N.job }
+    requires hands { H.job runner.now.hands.now ≡ N.job }
     requires job { N.job ≡ job.now }
     requires workers { N.workers ≡ workers }
     ensures roots { IfOk result (λ w. AreRootPieces P.job_of P.slot_of P.node_of P.made_of N.job w.roots.items) }
@@ -129,8 +129,8 @@ pub(crate) fn run_here<P: Piece, T, H: Hands<P, T>, G: Gate, N: Board>(
     ensures workers { IfOk result (λ w. All (λ e. e.worker ≤ N.workers) w.history.items) }
     ensures made { IfOk result (λ w. w.made ≡ length w.history.items) }
 {
-    let mut book: Book<P, N> = Book::new(bench.alloc, job, workers)?;
-    let (made, book) = both(drain(bench, &mut book, 0, tools), book)?;
+    let mut book: Book<P, N> = Book::new(runner.alloc, job, workers)?;
+    let (made, book) = both(drain(runner, &mut book, 0, tools), book)?;
     Ok(finish(book, made))
 }
 
@@ -147,10 +147,10 @@ pub fn work_here<P: Piece, T, H: Hands<P, T>>(
     ensures workers { IfOk result (λ w. All (λ e. e.worker ≡ 0) w.history.items) }
     ensures made { IfOk result (λ w. w.made ≡ length w.history.items) }
 {
-    let bench = Bench {
+    let runner = ItemRunner {
         alloc,
         hands,
         gate: &OpenGate,
     };
-    run_here::<P, T, H, OpenGate, Brand>(&bench, job, 0, tools)
+    run_here::<P, T, H, OpenGate, Brand>(&runner, job, 0, tools)
 }

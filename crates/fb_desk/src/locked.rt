@@ -1,7 +1,7 @@
 //! What the lock of a crew holds.
 
 ghost use Rattle.std.specs.Prelude.{◌≡◌, ◌+◌, ◌^◌, ◌≤◌, ◌<◌, true, false, Some, length, slice_set};
-ghost use Rattle.fb_book.specs.declared.entries.Kind.TheVariants.{Gave, Left};
+ghost use Rattle.fb_book.specs.declared.entries.EntryKind.TheVariants.{Gave, Left};
 ghost use Rattle.fb_book.specs.Board.{Lets, TakesUnit};
 ghost use Rattle.fb_book.specs.Books.{AreOfChildren, HandsOut, IsPieceAt, course_of, holds, place_of};
 

@@ -15,7 +15,7 @@ use crate::seat::Seat;
 use fb_book::{Board, Book, MOST_WORKERS, Piece};
 use fb_graph::NoMemory;
 use fb_half::both::both;
-use fb_hands::{Bench, Gate, Hands};
+use fb_hands::{Gate, Hands, ItemRunner};
 use fb_plan::Job;
 use std::alloc::Global;
 use std::marker::Brand;
@@ -87,31 +87,31 @@ struct Counted<P: Piece, N: Board> {
 
 /// Does the items that are left once the workers have ended, as one more worker. Returns how many events it has made.
 fn do_rest<P: Piece, T, H: Hands<P, T>, G: Gate, N: Board>(
-    bench: &Bench<'_, H, G>,
+    runner: &ItemRunner<'_, H, G>,
     book: &mut Book<P, N>,
     worker: u32,
     tools: &mut T,
 ) -> Result<u64, NoMemory>
-    requires hands { H.job bench.now.hands.now ≡ N.job }
+    requires hands { H.job runner.now.hands.now ≡ N.job }
     requires worker { worker ≤ N.workers }
     ensures { IfOk result (λ made. length book.new.0 ≡ length book.old.0 + made) }
 {
     if book.is_starved() {
         return Err(NoMemory);
     }
-    drain(bench, book, worker, tools)
+    drain(runner, book, worker, tools)
 }
 
 /// Does what is left of a job once its workers have ended, as one more worker. If items stay open all the same, does the
 /// whole job anew.
 fn complete<P: Piece, T, H: Hands<P, T>, G: Gate, N: Board>(
-    bench: &Bench<'_, H, G>,
+    runner: &ItemRunner<'_, H, G>,
     job: &Job<'_>,
     workers: u32,
     counted: Counted<P, N>,
     tools: &mut T,
 ) -> Result<Finished<P>, NoMemory>
-    requires hands { H.job bench.now.hands.now ≡ N.job }
+    requires hands { H.job runner.now.hands.now ≡ N.job }
     requires job { N.job ≡ job.now }
     requires workers { N.workers ≡ workers }
     ensures roots { IfOk result (λ w. AreRootPieces P.job_of P.slot_of P.node_of P.made_of N.job w.roots.items) }
@@ -120,13 +120,13 @@ fn complete<P: Piece, T, H: Hands<P, T>, G: Gate, N: Board>(
     ensures made { IfOk result (λ w. w.made ≡ length w.history.items) }
 {
     let Counted { mut book, made } = counted;
-    let (rest, book) = both(do_rest(bench, &mut book, workers, tools), book)?;
+    let (rest, book) = both(do_rest(runner, &mut book, workers, tools), book)?;
     book.keeps();
     if book.is_done() {
         return Ok(finish(book, made + rest));
     }
     drop(book);
-    run_here::<P, T, H, G, N>(bench, job, workers, tools)
+    run_here::<P, T, H, G, N>(runner, job, workers, tools)
 }
 
 /// Lets each seat's worker do items until it ends, and gives all seats back. The first seat's worker is on
@@ -141,8 +141,13 @@ fn work_each<
     G: Gate,
     N: Board + Send + Sync,
     R: Threads + Wait + Sync,
->(rt: &R, desk: &Desk<P, N>, bench: &Bench<'_, H, G>, mut seats: Vec<Seat<T, N>>) -> Vec<Seat<T, N>>
-    requires hands { H.job bench.now.hands.now ≡ N.job }
+>(
+    rt: &R,
+    desk: &Desk<P, N>,
+    runner: &ItemRunner<'_, H, G>,
+    mut seats: Vec<Seat<T, N>>,
+) -> Vec<Seat<T, N>>
+    requires hands { H.job runner.now.hands.now ≡ N.job }
     requires numbers { AreNumbered (λ s. s.worker) seats.items }
     ensures numbers { AreNumbered (λ s. s.worker) result.items }
     ensures count { length result.items ≡ length seats.items }
@@ -152,18 +157,18 @@ fn work_each<
         return seats;
     };
     if seats.is_empty() {
-        seats.push_reserved(desk.work(rt, bench, seat));
+        seats.push_reserved(desk.work(rt, runner, seat));
         return seats;
     }
     let last = move || -> Seat<T, N>
-        requires { H.job bench.now.hands.now ≡ N.job }
+        requires { H.job runner.now.hands.now ≡ N.job }
         ensures { result.worker ≡ seat.worker }
-    { desk.work(rt, bench, seat) };
+    { desk.work(rt, runner, seat) };
     let others = move || -> Vec<Seat<T, N>>
-        requires { IsSync R.row × (H.job bench.now.hands.now ≡ N.job) × AreNumbered (λ s. s.worker) seats.items }
+        requires { IsSync R.row × (H.job runner.now.hands.now ≡ N.job) × AreNumbered (λ s. s.worker) seats.items }
         ensures { (length result.items ≡ length seats.items) × (vec_capacity result ≡ vec_capacity seats)
             × AreNumbered (λ s. s.worker) result.items }
-    { work_each(rt, desk, bench, seats) };
+    { work_each(rt, desk, runner, seats) };
     let (seat, mut seats) = thread::join(rt, last, others);
     seats.push_reserved(seat);
     seats
@@ -180,12 +185,12 @@ fn join_workers<
     R: Threads + Wait + Sync,
 >(
     rt: &R,
-    bench: &Bench<'_, H, G>,
+    runner: &ItemRunner<'_, H, G>,
     book: Book<P, N>,
     blank: Blank,
     mut tools: Vec<T>,
 ) -> Result<(Counted<P, N>, Vec<T>), NoMemory>
-    requires hands { H.job bench.now.hands.now ≡ N.job }
+    requires hands { H.job runner.now.hands.now ≡ N.job }
     requires new { book.0 ≡ [] }
     requires name { blank.name ≡ N.name }
     requires parts { blank.parts ≡ N.parts }
@@ -197,9 +202,9 @@ fn join_workers<
     let (events, mut all) = blank.open::<N>();
     let count = book.item_count().clamp(1, tools.len());
     let desk = Desk::new(book, events);
-    let seats = take_seats(bench.alloc, &mut tools, &mut all, count as u32);
+    let seats = take_seats(runner.alloc, &mut tools, &mut all, count as u32);
     let (seats, (desk, mut tools, mut all)) = both(seats, (desk, tools, all))?;
-    let seats = work_each(rt, &desk, bench, seats);
+    let seats = work_each(rt, &desk, runner, seats);
     let Locked { book, mut events } = desk.into_locked();
     book.keeps();
     let made = leave_seats(seats, &mut tools, &mut events, &mut all);
@@ -216,12 +221,12 @@ fn run_all<
     R: Threads + Wait + Sync,
 >(
     rt: &R,
-    bench: &Bench<'_, H, G>,
+    runner: &ItemRunner<'_, H, G>,
     job: &Job<'_>,
     blank: Blank,
     tools: Vec<T>,
 ) -> Result<Worked<P, T>, NoMemory>
-    requires hands { H.job bench.now.hands.now ≡ N.job }
+    requires hands { H.job runner.now.hands.now ≡ N.job }
     requires job { N.job ≡ job.now }
     requires workers { N.workers ≡ length tools.items }
     requires some { (1 ≤ N.workers) × (N.workers ≤ MOST_WORKERS) }
@@ -235,12 +240,12 @@ fn run_all<
     ensures tools { IfOk result (λ w. length w.tools.items ≡ N.workers) }
 {
     let workers = tools.len() as u32;
-    let (book, tools) = both(Book::<P, N>::new(bench.alloc, job, workers), tools)?;
-    let (counted, mut tools) = join_workers(rt, bench, book, blank, tools)?;
+    let (book, tools) = both(Book::<P, N>::new(runner.alloc, job, workers), tools)?;
+    let (counted, mut tools) = join_workers(rt, runner, book, blank, tools)?;
     let Some(spare) = tools.last_mut() else {
         unreachable!()
     };
-    let (finished, tools) = both(complete(bench, job, workers, counted, spare), tools)?;
+    let (finished, tools) = both(complete(runner, job, workers, counted, spare), tools)?;
     Ok(finished.with_tools(tools))
 }
 
@@ -263,12 +268,12 @@ pub fn work_all<P: Piece + Send, T: Send + Drop, H: Hands<P, T>, G: Gate, R: Thr
     ensures made { IfOk result (λ w. w.made ≡ length w.history.items) }
     ensures tools { IfOk result (λ w. length w.tools.items ≡ workers) }
 {
-    let bench = Bench { alloc, hands, gate };
+    let runner = ItemRunner { alloc, hands, gate };
     if workers > 1 {
         let blank = Blank::new(u64::from(workers) + 1);
-        return run_all::<P, T, H, G, Brand, R>(rt, &bench, job, blank, tools);
+        return run_all::<P, T, H, G, Brand, R>(rt, &runner, job, blank, tools);
     }
-    let finished = run_here::<P, T, H, G, Brand>(&bench, job, workers, &mut tools[0]);
+    let finished = run_here::<P, T, H, G, Brand>(&runner, job, workers, &mut tools[0]);
     let (finished, tools) = both(finished, tools)?;
     Ok(finished.with_tools(tools))
 }

@@ -15,7 +15,7 @@ use Rattle.fb_graph.proofs.BuildSteps.{range_push}
 use Rattle.fb_graph.proofs.Sets.{count_equal-le, distinct_from_rising, range_rises}
 use Rattle.fb_plan.specs.Plans.{is_within, are_unrelated, goes_across, owner_of}
 use Rattle.fb_plan.specs.Rules.{claims_from, holds, owner_in}
-use Rattle.fb_plan.specs.declared.parts.Claim.{Claim}
+use Rattle.fb_plan.specs.declared.parts.OwnedRange.{OwnedRange}
 use Rattle.fb_plan.proofs.Trees.{within_self}
 use Rattle.fb_gen.specs.Lattice.{vertex_at, vertex_count, entry_if, is_inner, edges_from, edges_of_row, edges_of_round, lattice_edges, lattice_graph, weight_within, weight_later}
 use Rattle.fb_gen.specs.TimePlan.{IsRoundOf, no_fusion, first_round, unit_range, seam_range, time_fusions, time_ranges, time_tree}
@@ -35,7 +35,7 @@ count-singles : {X : Type 0} (v n : ℕ) (f : X → ℕ × ℕ) (xs : List X)
     → count_by (holds v) (claims_from n (map (λ x. f x ∷ []) xs)) ≡ count_by (λ x. lies_in v (f x)) xs
 count-singles v n f [] = refl
 count-singles v n f (x ∷ xs) =
-    let here : Claim = record { node = n; start = (f x).0; end = (f x).1 } in
+    let here : OwnedRange = record { node = n; start = (f x).0; end = (f x).1 } in
     omega (
       arith,
       count-cons (holds v) here (claims_from (n + 1) (map (λ y. f y ∷ []) xs)),
@@ -43,7 +43,7 @@ count-singles v n f (x ∷ xs) =
       count-singles v (n + 1) f xs,
     )
 
-all-singles : {X : Type 0} (P : Claim → Type 0) (n : ℕ) (f : X → ℕ × ℕ) (xs : List X) (d : X)
+all-singles : {X : Type 0} (P : OwnedRange → Type 0) (n : ℕ) (f : X → ℕ × ℕ) (xs : List X) (d : X)
     → ((k m : ℕ) → k < length xs → m ≡ n + k → P (record { node = m; start = (f (get_or xs k d)).0; end = (f (get_or xs k d)).1 }))
     → All P (claims_from n (map (λ x. f x ∷ []) xs))
 all-singles P n f [] d each = All-nil P
@@ -63,12 +63,12 @@ found_is P test (x ∷ xs) y all found = step (test x) refl found (λ f. found_i
     step true e f rest = let same : x ≡ y = cc in subst (λ z. P z × (test z ≡ true)) same (All-head P x xs all, e)
     step false e f rest = rest f
 
-pub record IsUnitClaim (d t u : ℕ) (c : Claim) : Type 0 where
+pub record IsUnitClaim (d t u : ℕ) (c : OwnedRange) : Type 0 where
   pub node : c.node < u
   pub start : c.start ≡ first_round t u c.node * (d * (d + 1))
   pub end : c.end ≡ (first_round t u (c.node + 1) - 1) * (d * (d + 1))
 
-pub record IsSeamClaim (d t u : ℕ) (c : Claim) : Type 0 where
+pub record IsSeamClaim (d t u : ℕ) (c : OwnedRange) : Type 0 where
   pub place : ℕ
   pub within : place < length (time_fusions u)
   pub node : c.node ≡ u + place
@@ -76,10 +76,10 @@ pub record IsSeamClaim (d t u : ℕ) (c : Claim) : Type 0 where
   pub end : c.end ≡ first_round t u (get_or (time_fusions u) place no_fusion).seam * (d * (d + 1))
 
 -- a range of a unit, or the seam of a fusion
-abbrev pub IsTimeClaim : ℕ → ℕ → ℕ → Claim → Type 0
+abbrev pub IsTimeClaim : ℕ → ℕ → ℕ → OwnedRange → Type 0
 IsTimeClaim d t u c = IsUnitClaim d t u c ⊎ IsSeamClaim d t u c
 
-abbrev pub time_claims : ℕ → ℕ → ℕ → List Claim
+abbrev pub time_claims : ℕ → ℕ → ℕ → List OwnedRange
 time_claims d t u = claims_from 0 (time_ranges d t u)
 
 time_claims_parts : (d t u : ℕ)
@@ -184,7 +184,7 @@ unit_order_strict t u a b shared less = elim (cases_lt a b) [
   ]
 ]
 
-round_of_claim : (d t u k x v : ℕ) (c : Claim) → IsShared t u → x < d * (d + 1) → v ≡ k * (d * (d + 1)) + x
+round_of_claim : (d t u k x v : ℕ) (c : OwnedRange) → IsShared t u → x < d * (d + 1) → v ≡ k * (d * (d + 1)) + x
     → holds v c ≡ true → IsTimeClaim d t u c → IsRoundOf t u k c.node
 round_of_claim d t u k x v c shared small is held (inl unit) =
     let low : c.start ≤ v = leb-true c.start v (and_parts (nat_le c.start v) (nat_lt v c.end) held).0 in
@@ -278,7 +278,7 @@ owner_round d t u v k x m shared small is below owned =
     step (is_real_in (lattice_graph d t) v) (find (holds v) (time_claims d t u)) refl
     (sym (get_or-map-range_with_len (owner_in (lattice_graph d t) (time_claims d t u)) 0 (vertex_count d t) v v None below (omega arith)) ∙ owned)
   where
-    step : (b : Bool) (o : Option Claim) → find (holds v) (time_claims d t u) ≡ o
+    step : (b : Bool) (o : Option OwnedRange) → find (holds v) (time_claims d t u) ≡ o
         → cond b (option_map (λ c. c.node) o) None ≡ Some m → IsRoundOf t u k m
     step true (Some c) e f =
         let same : c.node ≡ m = cc in

@@ -19,7 +19,7 @@ struct Size {
 
 /// The numbers that a graph is built of.
 #[derive(Drop)]
-struct Parts {
+struct LatticeLists {
     edges: Vec<(u64, u64, i128)>,
     virtuals: Vec<u64>,
 }
@@ -45,7 +45,7 @@ impl Size {
     }
 }
 
-impl Parts {
+impl LatticeLists {
     /// Adds an edge if it is wanted.
     fn push_if(&mut self, is_wanted: bool, edge: (u64, u64, i128)) -> Result<(), NoMemory>
         ensures edges { OnOk result (self.new.edges.items ≡ self.old.edges.items ++ entry_if is_wanted edge) }
@@ -142,13 +142,13 @@ fn size_of(distance: u32, rounds: u32) -> Size
 }
 
 /// The numbers of a lattice, in no more steps than a graph can have vertices.
-fn parts_of(alloc: Global, size: Size) -> Result<Parts, NoMemory>
+fn parts_of(alloc: Global, size: Size) -> Result<LatticeLists, NoMemory>
     requires size { vertex_count size.distance size.rounds ≤ most_vertices }
     requires few { size.rounds ≤ most_vertices }
     ensures edges { IfOk result (λ parts. parts.edges.items ≡ lattice_edges size.distance size.rounds) }
     ensures virtuals { IfOk result (λ parts. parts.virtuals.items ≡ lattice_virtuals size.distance size.rounds) }
 {
-    let mut parts = Parts {
+    let mut parts = LatticeLists {
         edges: Vec::new(alloc),
         virtuals: Vec::new(alloc),
     };

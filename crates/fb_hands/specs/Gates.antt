@@ -1,6 +1,6 @@
 -- What has passed a gate.
 use Rattle.std.specs.Prelude.{ℕ, ◌≡◌}
-use Rattle.fb_book.specs.declared.entries.Kind.TheVariants.{Gave}
+use Rattle.fb_book.specs.declared.entries.EntryKind.TheVariants.{Gave}
 use Rattle.fb_book.specs.declared.entries.Entry.{Entry}
 
 -- If the entry is that an item was given, its worker has passed with the item.

@@ -2,10 +2,10 @@
 
 #![tactic(auto)]
 
-pub mod bench;
 pub mod gate;
 pub mod hands;
+pub mod runner;
 
-pub use bench::{Bench, Item};
 pub use gate::{Gate, OpenGate};
 pub use hands::Hands;
+pub use runner::{Item, ItemRunner};

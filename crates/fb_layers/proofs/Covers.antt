@@ -15,7 +15,7 @@ use Rattle.fb_graph.proofs.Leasts.{least_none}
 use Rattle.fb_plan.specs.Plans.{PlanTree, IsPlan, goes_across, owner_of}
 use Rattle.fb_plan.specs.Rules.{holds, claim_of, claims_from, is_bad_range, is_bad_node, is_unowned, is_owned_twice, owner_in, tree_by, range_fault, unowned_fault, twice_fault, child_fault, use_fault, root_fault, edge_fault, plan_by}
 use Rattle.fb_plan.specs.Vertices.{is_node}
-use Rattle.fb_plan.specs.declared.parts.Claim.{Claim}
+use Rattle.fb_plan.specs.declared.parts.OwnedRange.{OwnedRange}
 use Rattle.fb_gen.proofs.Fusions.{count-cons, count-append, count-map}
 use Rattle.fb_gen.proofs.TreeRules.{no_units_fault, no_child_fault, no_use_fault, no_root_fault, no_faults}
 use Rattle.fb_gen.specs.declared.levels.Fusion.{Fusion}
@@ -25,7 +25,7 @@ use Rattle.fb_layers.specs.InternalCovers.{IsRange, HoldOwned, Ranges, all_range
 -- ---- the ranges that hold a vertex
 
 -- the node of the first range that holds the vertex
-abbrev node_in : ℕ → List Claim → Option ℕ
+abbrev node_in : ℕ → List OwnedRange → Option ℕ
 node_in v claims = option_map (λ c. c.node) (find (holds v) claims)
 
 count-claims : (v a : ℕ) (r : List (ℕ × ℕ)) → count_by (holds v) (map (claim_of a) r) ≡ count_by (is_held v) r
@@ -85,13 +85,13 @@ held_once v m a (r ∷ rs) each from to = step (cases_eq m a) (held_once v m (a 
     here : count_by (is_held v) r ≡ as_count (m == a)
     here = once_head v m a r rs each
 
-    found : (o : Option Claim) → find (holds v) (map (claim_of a) r) ≡ o
+    found : (o : Option OwnedRange) → find (holds v) (map (claim_of a) r) ≡ o
         → find (holds v) (claims_from a (r ∷ rs)) ≡ option_or o (find (holds v) (claims_from (a + 1) rs))
     found o is =
         find-append (holds v) (map (claim_of a) r) (claims_from (a + 1) rs)
         ∙ ap (λ p. option_or p (find (holds v) (claims_from (a + 1) rs))) is
 
-    own : (o : Option Claim) → find (holds v) (map (claim_of a) r) ≡ o → option_map (λ c. c.node) o ≡ Some a
+    own : (o : Option OwnedRange) → find (holds v) (map (claim_of a) r) ≡ o → option_map (λ c. c.node) o ≡ Some a
         → node_in v (claims_from a (r ∷ rs)) ≡ Some a
     own None is node = cc
     own (Some c) is node = ap (option_map (λ d. d.node)) (found (Some c) is) ∙ node

@@ -6,7 +6,7 @@ use Rattle.fb_graph.specs.Problem.{Problem, edge_at}
 use Rattle.fb_graph.specs.Dual.{AreUnderOne, Node, cover_of}
 use Rattle.fb_graph.specs.declared.parts.Edge.{Edge}
 use Rattle.fb_regions.specs.declared.roles.Role.{Role}
-use Rattle.fb_obstacles.specs.declared.ends.Ends.{Ends}
+use Rattle.fb_obstacles.specs.declared.ends.HolderPair.{HolderPair}
 use Rattle.fb_obstacles.specs.declared.looking.Look.{Look}
 use Rattle.fb_obstacles.specs.Obstacles.{residue_at}
 use Rattle.fb_obstacles.specs.InnerEdges.{is_inner, is_one_node}
@@ -19,29 +19,29 @@ same_node (Some m) None same = absurd (false≢true same)
 same_node None b same = absurd (false≢true same)
 
 -- the edge is inner where one node holds both known ends
-pub inner_by_ends : (nodes : List Node) (e : Edge) (ends : Ends) (inner : Bool) → AreEnds nodes e ends
+pub inner_by_ends : (nodes : List Node) (e : Edge) (ends : HolderPair) (inner : Bool) → AreEnds nodes e ends
     → inner ≡ is_one_node (node_by ends.first) (node_by ends.second) → inner ≡ true → is_inner nodes e ≡ true
 inner_by_ends nodes e ends inner known is holds = rw (← known.first.node, ← known.second.node) (sym is ∙ holds)
 
 -- and isn't where they aren't under one
-pub apart_by_ends : (nodes : List Node) (e : Edge) (ends : Ends) (inner : Bool) → AreEnds nodes e ends
+pub apart_by_ends : (nodes : List Node) (e : Edge) (ends : HolderPair) (inner : Bool) → AreEnds nodes e ends
     → inner ≡ is_one_node (node_by ends.first) (node_by ends.second) → inner ≡ false → is_inner nodes e ≡ false
 apart_by_ends nodes e ends inner known is not_one = rw (← known.first.node, ← known.second.node) (sym is ∙ not_one)
 
 -- the weight less the potentials of the known ends is the residue of the edge
-pub residue_by_ends : (p : Problem) (nodes : List Node) (k weight x : ℕ) (ends : Ends)
+pub residue_by_ends : (p : Problem) (nodes : List Node) (k weight x : ℕ) (ends : HolderPair)
     → AreEnds nodes (edge_at p.edges k) ends → weight ≡ (edge_at p.edges k).weight
     → x ≡ residue_by ends weight → x ≡ residue_at p nodes k
 residue_by_ends p nodes k weight x ends known weighs is =
     omega (arith, is, weighs, known.first.potential, known.second.potential)
 
 -- what a plus node grows towards, by the known ends
-far_by_ends : (p : Problem) (role_of : ℕ → Role) (nodes : List Node) (e : Edge) (ends : Ends) → AreEnds nodes e ends
+far_by_ends : (p : Problem) (role_of : ℕ → Role) (nodes : List Node) (e : Edge) (ends : HolderPair) → AreEnds nodes e ends
     → far_by p role_of e ends ≡ far_end (cover_at p role_of nodes e.first) (cover_at p role_of nodes e.second)
 far_by_ends p role_of nodes e ends known = rw (known.first.node, known.second.node) refl
 
 -- a look by the known ends and the residue is a look at the edge
-pub look_by_ends : (p : Problem) (role_of : ℕ → Role) (nodes : List Node) (k x : ℕ) (ends : Ends) (l : Look)
+pub look_by_ends : (p : Problem) (role_of : ℕ → Role) (nodes : List Node) (k x : ℕ) (ends : HolderPair) (l : Look)
     → AreEnds nodes (edge_at p.edges k) ends → x ≡ residue_at p nodes k
     → l ≡ look_if (far_by p role_of (edge_at p.edges k) ends) x k → l ≡ edge_look p role_of nodes k
 look_by_ends p role_of nodes k x ends l known residue is =
@@ -51,7 +51,7 @@ look_by_ends p role_of nodes k x ends l known residue is =
     ∙ ap (λ far. look_if far (residue_at p nodes k) k) (far_by_ends p role_of nodes e ends known)
 
 -- the same by the edge's weight
-pub by_known_ends : (p : Problem) (role_of : ℕ → Role) (nodes : List Node) (k weight x : ℕ) (ends : Ends) (l : Look)
+pub by_known_ends : (p : Problem) (role_of : ℕ → Role) (nodes : List Node) (k weight x : ℕ) (ends : HolderPair) (l : Look)
     → AreEnds nodes (edge_at p.edges k) ends → weight ≡ (edge_at p.edges k).weight → x ≡ residue_by ends weight
     → l ≡ look_if (far_by p role_of (edge_at p.edges k) ends) x k → l ≡ edge_look p role_of nodes k
 by_known_ends p role_of nodes k weight x ends l known weighs residue is =

@@ -22,7 +22,7 @@ use Rattle.fb_obstacles.specs.declared.looking.Look.TheVariants.{Clear, Within, 
 use Rattle.fb_obstacles.specs.declared.ends.Cover.{Cover}
 use Rattle.fb_obstacles.specs.declared.ends.Cover.TheVariants.{Plus, Minus, Out, Bare, Virtual}
 use Rattle.fb_obstacles.specs.declared.ends.End.{End}
-use Rattle.fb_obstacles.specs.declared.ends.Ends.{Ends}
+use Rattle.fb_obstacles.specs.declared.ends.HolderPair.{HolderPair}
 
 abbrev pub cover_in_role : Role → ℕ → Cover
 cover_in_role role.Plus name = Plus name
@@ -45,12 +45,12 @@ pub record IsEnd (nodes : List Node) (v : ℕ) (end : End) : Type 0 where
   pub holder : IsHolder nodes v end.holder
 
 -- the ends are those of the edge, each with its holder
-pub record AreEnds (nodes : List Node) (e : Edge) (ends : Ends) : Type 0 where
+pub record AreEnds (nodes : List Node) (e : Edge) (ends : HolderPair) : Type 0 where
   pub first : IsHolder nodes e.first ends.first
   pub second : IsHolder nodes e.second ends.second
 
 -- the weight of an edge with these ends less the potentials of both
-abbrev pub residue_by : Ends → ℕ → ℕ
+abbrev pub residue_by : HolderPair → ℕ → ℕ
 residue_by ends weight = weight - (potential_by ends.first + potential_by ends.second)
 
 abbrev pub cover_at : Problem → (ℕ → Role) → List Node → ℕ → Cover
@@ -64,7 +64,7 @@ far_end far (Plus n) = Some far
 far_end first second = None
 
 -- what a plus node grows towards along the edge with these ends
-abbrev pub far_by : Problem → (ℕ → Role) → Edge → Ends → Option Cover
+abbrev pub far_by : Problem → (ℕ → Role) → Edge → HolderPair → Option Cover
 far_by p role_of e ends =
     far_end (cover_by role_of (p.is_real e.first) (node_by ends.first))
     (cover_by role_of (p.is_real e.second) (node_by ends.second))

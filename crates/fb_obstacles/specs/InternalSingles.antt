@@ -7,10 +7,10 @@ use Rattle.fb_graph.specs.Dual.{Node, all_cuts, cover_of, height_of, is_empty, l
 use Rattle.fb_regions.specs.Moves.{node_named}
 use Rattle.fb_obstacles.specs.Obstacles.{residue_of}
 use Rattle.fb_obstacles.specs.declared.singles.Around.{Around}
-use Rattle.fb_obstacles.specs.declared.singles.Reach.{Reach}
+use Rattle.fb_obstacles.specs.declared.singles.EdgeAtSingle.{EdgeAtSingle}
 
 -- an edge from the vertex, with what it reaches and its residue
-pub record IsReach (p : Problem) (nodes : List Node) (v : ℕ) (r : Reach) : Type 0 where
+pub record IsReach (p : Problem) (nodes : List Node) (v : ℕ) (r : EdgeAtSingle) : Type 0 where
   pub within : r.edge < length p.edges
   pub leads : Leads (edge_at p.edges r.edge) v r.far
   pub potential : r.far_potential ≡ height_of (all_cuts nodes) r.far
@@ -22,16 +22,16 @@ abbrev pub is_single : List Node → ℕ → Bool
 is_single nodes name = if not (is_empty (node_named nodes name).children) then false else (length (layers_at nodes name) == 1)
 
 -- the edge has less residue than the best one so far
-abbrev pub is_nearer : Reach → Option Reach → Bool
+abbrev pub is_nearer : EdgeAtSingle → Option EdgeAtSingle → Bool
 is_nearer reach None = true
 is_nearer reach (Some best) = nat_lt reach.length best.length
 
 -- the room beside a further edge, which is the best one
-abbrev pub room_with : Option Reach → ℕ → ℕ
+abbrev pub room_with : Option EdgeAtSingle → ℕ → ℕ
 room_with None room = room
 room_with (Some best) room = min room best.length
 
-abbrev pub with_best : Around → Reach → Around
+abbrev pub with_best : Around → EdgeAtSingle → Around
 with_best around reach = record { best = Some reach; room = room_with around.best around.room }
 
 -- Each edge at the vertex has at least the residue `room`, but for those that lead to `far`, which have at least `between`.

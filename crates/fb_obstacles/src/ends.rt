@@ -52,26 +52,26 @@ impl End {
 
 /// The nodes that hold the ends of an edge, with the potentials of the ends.
 #[derive(Clone, Copy)]
-pub struct Ends {
+pub struct HolderPair {
     first: Option<Holder>,
     second: Option<Holder>,
 }
 
-impl Ends {
+impl HolderPair {
     /// The ends of the edge.
-    pub fn of<S: Scope>(edge: u32, regions: &Regions<S>) -> Ends
+    pub fn of<S: Scope>(edge: u32, regions: &Regions<S>) -> HolderPair
         requires { edge < length (S.problem regions.now.scope).edges }
         ensures { AreEnds regions.now.nodes (edge_at (S.problem regions.now.scope).edges edge) result }
     {
         let (first, second) = regions.scope().ends(edge);
-        Ends {
+        HolderPair {
             first: regions.holder(first),
             second: regions.holder(second),
         }
     }
 
     /// The ends of an edge at this vertex.
-    pub fn at<S: Scope>(end: End, edge: u32, regions: &Regions<S>) -> Ends
+    pub fn at<S: Scope>(end: End, edge: u32, regions: &Regions<S>) -> HolderPair
         requires below { edge < length (S.problem regions.now.scope).edges }
         requires touches { touches end.vertex (edge_at (S.problem regions.now.scope).edges edge) ≡ true }
         requires held { IsEnd regions.now.nodes end.vertex end }
@@ -79,12 +79,12 @@ impl Ends {
     {
         let (first, second) = regions.scope().ends(edge);
         if first == end.vertex {
-            Ends {
+            HolderPair {
                 first: end.holder,
                 second: regions.holder(second),
             }
         } else {
-            Ends {
+            HolderPair {
                 first: regions.holder(first),
                 second: end.holder,
             }

@@ -19,6 +19,7 @@ pub use fb_regions::{NodeId, Role, Roles};
 pub use finding::{next_obstacle, obstacle_at};
 pub use obstacle::Obstacle;
 pub use singles::{
-    Around, Reach, is_nearer, is_single, reach_over, room_beside, share, single_vertex, with_best,
+    Around, EdgeAtSingle, is_nearer, is_single, reach_over, room_beside, share, single_vertex,
+    with_best,
 };
 pub use watching::Watch;

@@ -4,7 +4,7 @@ ghost use Rattle.fb_graph.specs.Problem.{edge_at, touches};
 ghost use Rattle.fb_obstacles.specs.InnerEdges.{is_inner};
 ghost use Rattle.fb_obstacles.specs.InternalLooks.{AreEnds, IsEnd, bounded_look, both_looks, bound_by, edge_look, far_by, fits_within, look_at, look_if};
 
-use crate::ends::{Cover, End, Ends};
+use crate::ends::{Cover, End, HolderPair};
 use crate::obstacle::Obstacle;
 use fb_graph::{Scope, Steps};
 use fb_regions::{Regions, Roles};
@@ -98,7 +98,7 @@ pub fn look_between<S: Scope, R: Roles, L: Ledger>(
         × (is_inner regions.now.nodes e ≡ false)) }
     ensures counted { looks.new ≡ looks.old + 1 }
 {
-    look_over(edge, Ends::of(edge, regions), scope, roles, looks)
+    look_over(edge, HolderPair::of(edge, regions), scope, roles, looks)
 }
 
 /// The same of an edge at this vertex.
@@ -119,13 +119,19 @@ pub fn look_beside<S: Scope, R: Roles, L: Ledger>(
         × (is_inner regions.now.nodes (edge_at (S.problem scope.now).edges edge) ≡ false)) }
     ensures counted { looks.new ≡ looks.old + 1 }
 {
-    look_over(edge, Ends::at(end, edge, regions), scope, roles, looks)
+    look_over(
+        edge,
+        HolderPair::at(end, edge, regions),
+        scope,
+        roles,
+        looks,
+    )
 }
 
 /// The same of an edge whose ends are known.
 fn look_over<S: Scope, R: Roles, L: Ledger>(
     edge: u32,
-    ends: Ends,
+    ends: HolderPair,
     scope: &S,
     roles: &R,
     looks: &mut Steps<L>,
@@ -146,7 +152,13 @@ fn look_over<S: Scope, R: Roles, L: Ledger>(
 }
 
 /// A look at one edge whose ends and residue are known.
-fn look_with<S: Scope, R: Roles>(edge: u32, ends: Ends, residue: u64, scope: &S, roles: &R) -> Look
+fn look_with<S: Scope, R: Roles>(
+    edge: u32,
+    ends: HolderPair,
+    residue: u64,
+    scope: &S,
+    roles: &R,
+) -> Look
     requires { edge < length (S.problem scope.now).edges }
     ensures { let e = edge_at (S.problem scope.now).edges edge in
         result ≡ look_if (far_by (S.problem scope.now) (R.role_of roles.now) e ends) residue edge }

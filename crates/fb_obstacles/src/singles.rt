@@ -11,7 +11,7 @@ use fb_regions::{NodeId, Regions, residue_left};
 
 /// An edge at a single defect, with what it reaches.
 #[derive(Clone, Copy)]
-pub struct Reach {
+pub struct EdgeAtSingle {
     /// Its number.
     pub edge: u32,
     /// The vertex at its other end.
@@ -28,7 +28,7 @@ pub struct Reach {
 #[derive(Clone, Copy)]
 pub struct Around {
     /// Of those to the boundary or to another unmatched single defect, one with the least residue.
-    pub best: Option<Reach>,
+    pub best: Option<EdgeAtSingle>,
     /// The least residue of the others; `u64::MAX` if there are none.
     pub room: u64,
 }
@@ -67,7 +67,7 @@ fn other_end<S: Scope>(scope: &S, edge: u32, v: u32) -> u32
 }
 
 /// The edge at a single defect, the vertex `v` of this potential, with what it reaches.
-pub fn reach_over<S: Scope>(regions: &Regions<S>, v: u32, potential: u64, edge: u32) -> Reach
+pub fn reach_over<S: Scope>(regions: &Regions<S>, v: u32, potential: u64, edge: u32) -> EdgeAtSingle
     requires within { edge < length (S.problem regions.now.scope).edges }
     requires touches { touches v (edge_at (S.problem regions.now.scope).edges edge) ≡ true }
     requires potential { potential ≡ height_of (all_cuts regions.now.nodes) v }
@@ -80,7 +80,7 @@ pub fn reach_over<S: Scope>(regions: &Regions<S>, v: u32, potential: u64, edge: 
     let far = other_end(scope, edge, v);
     let holder = regions.holder(far);
     let far_potential = holder.map_or(0, |holder| holder.potential);
-    Reach {
+    EdgeAtSingle {
         edge,
         far,
         far_potential,
@@ -90,7 +90,7 @@ pub fn reach_over<S: Scope>(regions: &Regions<S>, v: u32, potential: u64, edge: 
 }
 
 /// Whether the edge has less residue than the best one so far, or is the first one.
-pub fn is_nearer(reach: Reach, best: Option<Reach>) -> bool
+pub fn is_nearer(reach: EdgeAtSingle, best: Option<EdgeAtSingle>) -> bool
     ensures { result ≡ is_nearer reach best }
 {
     match best {
@@ -100,7 +100,7 @@ pub fn is_nearer(reach: Reach, best: Option<Reach>) -> bool
 }
 
 /// What was found, once a further edge is the best one: the best one before is one of the others.
-pub fn with_best(around: Around, reach: Reach) -> Around
+pub fn with_best(around: Around, reach: EdgeAtSingle) -> Around
     ensures { result ≡ with_best around reach }
 {
     let room = match around.best {

@@ -20,7 +20,7 @@ use Rattle.fb_graph.specs.Leasts.{least}
 use Rattle.fb_plan.specs.declared.faults.PlanFault.TheVariants.{TooManyUnits, VertexUnowned, VertexTwice, ChildOutOfRange, ChildUsedTwice, NotOneRoot}
 use Rattle.fb_plan.specs.declared.faults.PlanFault.{PlanFault}
 use Rattle.fb_plan.specs.declared.loads.Measure.TheVariants.{Nodes}
-use Rattle.fb_plan.specs.declared.parts.Claim.{Claim}
+use Rattle.fb_plan.specs.declared.parts.OwnedRange.{OwnedRange}
 use Rattle.fb_plan.specs.declared.parts.Join.{Join}
 use Rattle.fb_plan.proofs.Fusions.{join_of, length-joins_of, tree_of_rules}
 use Rattle.fb_graph.proofs.Leasts.{least_failed}
@@ -42,7 +42,7 @@ claims_below ranges nodes count k d less =
     let below : (get_or (claims_from 0 ranges) k d).node < 0 + length ranges = claims_of_nodes 0 ranges k d less in omega (arith, below, count)
 
 -- where no range passes, nothing is added up
-none_counted : (claims : List Claim) (v : ℕ) → count_by (holds v) claims ≡ 0 → load_at Nodes claims v ≡ 0
+none_counted : (claims : List OwnedRange) (v : ℕ) → count_by (holds v) claims ≡ 0 → load_at Nodes claims v ≡ 0
 none_counted [] v none = refl
 none_counted (c ∷ claims) v none = step (holds v c) refl (none_counted claims v)
   where
@@ -59,7 +59,7 @@ none_counted (c ∷ claims) v none = step (holds v c) refl (none_counted claims 
         )
 
 -- the node of the one range that holds the vertex is what the nodes of all of them add up to
-pub owner_found : (claims : List Claim) (v : ℕ) → count_by (holds v) claims ≡ 1
+pub owner_found : (claims : List OwnedRange) (v : ℕ) → count_by (holds v) claims ≡ 1
     → option_map (λ c. c.node) (find (holds v) claims) ≡ Some (load_at Nodes claims v)
 owner_found [] v one = absurd (omega (arith, one))
 owner_found (c ∷ claims) v one = step (holds v c) refl (owner_found claims v)
@@ -80,7 +80,7 @@ owner_found (c ∷ claims) v one = step (holds v c) refl (owner_found claims v)
         ∙ rest (omega (arith, one, sum_by-cons (λ x. cond (holds v x) 1 0) c claims, ap {B = ℕ} (λ b. cond b 1 0) e))
         ∙ ap Some (omega (arith, sum_by-cons (λ x. cond (holds v x) x.node 0) c claims, ap {B = ℕ} (λ b. cond b c.node 0) e))
 
-pub load_below : (claims : List Claim) (v nodes : ℕ) → All (λ c. c.node < nodes) claims → count_by (holds v) claims ≡ 1
+pub load_below : (claims : List OwnedRange) (v nodes : ℕ) → All (λ c. c.node < nodes) claims → count_by (holds v) claims ≡ 1
     → load_at Nodes claims v < nodes
 load_below [] v nodes below one = absurd (omega (arith, one))
 load_below (c ∷ claims) v nodes below one = step (holds v c) refl (load_below claims v nodes (All-tail (λ x. x.node < nodes) c claims below))
@@ -104,7 +104,7 @@ load_below (c ∷ claims) v nodes below one = step (holds v c) refl (load_below 
         )
 
 -- a real vertex that is neither in no range nor in two is in one
-pub held_once : (g : DecodingGraph) (claims : List Claim) → least g.vertices (is_unowned g claims) ≡ None
+pub held_once : (g : DecodingGraph) (claims : List OwnedRange) → least g.vertices (is_unowned g claims) ≡ None
     → least g.vertices (is_owned_twice g claims) ≡ None
     → (v : ℕ) → v < g.vertices → is_real_in g v ≡ true → count_by (holds v) claims ≡ 1
 held_once g claims owned once v less real =
@@ -126,7 +126,7 @@ map_agree a (suc n) f h same =
     (ap (λ xs. h a ∷ xs) (map_agree (a + 1) n f h (λ k low less. same k (omega arith) (omega arith))))
 
 -- the owners as they are added up
-pub owners_counted : (g : DecodingGraph) (claims : List Claim) (nodes : List ℕ)
+pub owners_counted : (g : DecodingGraph) (claims : List OwnedRange) (nodes : List ℕ)
     → ((v : ℕ) → v < g.vertices → get_or nodes v 0 ≡ load_at Nodes claims v)
     → ((v : ℕ) → v < g.vertices → is_real_in g v ≡ true → count_by (holds v) claims ≡ 1)
     → map (given_owner g nodes) (range_with_len 0 g.vertices)
@@ -144,7 +144,7 @@ owners_counted g claims nodes told once =
         ap (λ b. cond b (Some (get_or nodes v 0)) None) e
         ∙ sym (ap (λ b. cond b (option_map (λ c. c.node) (find (holds v) claims)) None) e)
 
-pub given_below : (g : DecodingGraph) (claims : List Claim) (nodes : List ℕ) (count : ℕ)
+pub given_below : (g : DecodingGraph) (claims : List OwnedRange) (nodes : List ℕ) (count : ℕ)
     → ((v : ℕ) → v < g.vertices → get_or nodes v 0 ≡ load_at Nodes claims v)
     → All (λ c. c.node < count) claims
     → ((v : ℕ) → v < g.vertices → is_real_in g v ≡ true → count_by (holds v) claims ≡ 1)
@@ -249,7 +249,7 @@ map_none f None none = refl
 map_none f (Some x) none = absurd (both_ways (is_some (Some (f x))) (ap is_some none) refl)
 
 -- where each real vertex is in one range, as far as the rules tell
-pub once_from : (g : DecodingGraph) (claims : List Claim) → option_or (unowned_fault g claims) (twice_fault g claims) ≡ None
+pub once_from : (g : DecodingGraph) (claims : List OwnedRange) → option_or (unowned_fault g claims) (twice_fault g claims) ≡ None
     → (v : ℕ) → v < g.vertices → is_real_in g v ≡ true → count_by (holds v) claims ≡ 1
 once_from g claims none =
     held_once g claims
@@ -295,17 +295,17 @@ all_but_edges g units fusions limit good cover children =
         → option_or a (option_or b (option_or c (option_or d (option_or e (option_or f (option_or h (option_or r None))))))) ≡ r
     seven a b c d e f h r ae be ce de ee fe he = rw (ae, be, ce, de, ee, fe, he) (option_or-none r)
 
-pub same_plan : (g : DecodingGraph) (n m : ℕ) (fusions : List Join) (claims claims' : List Claim) → n ≡ m → claims ≡ claims'
+pub same_plan : (g : DecodingGraph) (n m : ℕ) (fusions : List Join) (claims claims' : List OwnedRange) → n ≡ m → claims ≡ claims'
     → (let first : PlanTree = record { units = n; joins = joins_of fusions; owners = map (owner_in g claims) (range_with_len 0 g.vertices) } in first)
     ≡ record { units = m; joins = joins_of fusions; owners = map (owner_in g claims') (range_with_len 0 g.vertices) }
 same_plan g n m fusions claims claims' first second = rw (first, second) refl
 
-abbrev pub IsGrown : DecodingGraph → List Claim → ℕ → List Join → PlanTree → Type 0
+abbrev pub IsGrown : DecodingGraph → List OwnedRange → ℕ → List Join → PlanTree → Type 0
 IsGrown g claims units fusions t =
     t ≡ record { units = units; joins = joins_of fusions; owners = map (owner_in g claims) (range_with_len 0 g.vertices) }
 
 -- the first fault of parts that break no rule but that of the edges
-pub fault_of_edges : (g : DecodingGraph) (units : List (List (ℕ × ℕ))) (fusions : List Join) (n : ℕ) (claims : List Claim) (plan : PlanTree)
+pub fault_of_edges : (g : DecodingGraph) (units : List (List (ℕ × ℕ))) (fusions : List Join) (n : ℕ) (claims : List OwnedRange) (plan : PlanTree)
     → length units ≡ n → n ≤ most_units → claims ≡ claims_from 0 (ranges_of units fusions)
     → plan ≡ tree_by g units (joins_of fusions) (seams_of fusions)
     → range_fault g.vertices (ranges_of units fusions) ≡ None

@@ -7,22 +7,22 @@ use Rattle.fb_plan.specs.InternalLoads.{load_at}
 use Rattle.fb_plan.specs.Rules.{is_out_of_range, is_owned_twice, is_unowned, joins_of}
 use Rattle.fb_graph.specs.Leasts.{least}
 use Rattle.fb_plan.specs.declared.loads.Measure.TheVariants.{Ranges}
-use Rattle.fb_plan.specs.declared.parts.Claim.{Claim}
+use Rattle.fb_plan.specs.declared.parts.OwnedRange.{OwnedRange}
 use Rattle.fb_plan.specs.declared.parts.Join.{Join}
 use Rattle.fb_plan.proofs.Fusions.{join_of, length-joins_of}
 use Rattle.fb_graph.proofs.Leasts.{least_agree, least_failed}
 
 -- the counts are those of the ranges
-abbrev pub AreCounts : DecodingGraph → List Claim → List ℕ → Type 0
+abbrev pub AreCounts : DecodingGraph → List OwnedRange → List ℕ → Type 0
 AreCounts g claims counts = (v : ℕ) → v < g.vertices → get_or counts v 0 ≡ load_at Ranges claims v
 
-pub unowned_counted : (g : DecodingGraph) (claims : List Claim) (counts : List ℕ) → AreCounts g claims counts
+pub unowned_counted : (g : DecodingGraph) (claims : List OwnedRange) (counts : List ℕ) → AreCounts g claims counts
     → least g.vertices (λ v. is_real_in g v && eqb (get_or counts v 0) 0) ≡ least g.vertices (is_unowned g claims)
 unowned_counted g claims counts told =
     least_agree g.vertices (λ v. is_real_in g v && eqb (get_or counts v 0) 0) (is_unowned g claims)
     (λ v less. ap (λ k. is_real_in g v && eqb k 0) (told v less))
 
-pub twice_counted : (g : DecodingGraph) (claims : List Claim) (counts : List ℕ) → AreCounts g claims counts
+pub twice_counted : (g : DecodingGraph) (claims : List OwnedRange) (counts : List ℕ) → AreCounts g claims counts
     → least g.vertices (λ v. is_real_in g v && ltb 1 (get_or counts v 0)) ≡ least g.vertices (is_owned_twice g claims)
 twice_counted g claims counts told =
     least_agree g.vertices (λ v. is_real_in g v && ltb 1 (get_or counts v 0)) (is_owned_twice g claims)

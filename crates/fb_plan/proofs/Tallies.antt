@@ -12,21 +12,21 @@ use Rattle.fb_plan.specs.declared.loads.Bound.{Bound}
 use Rattle.fb_plan.specs.declared.loads.Bound.TheVariants.{Start, End}
 use Rattle.fb_plan.specs.declared.loads.Measure.{Measure}
 use Rattle.fb_plan.specs.declared.loads.Measure.TheVariants.{Ranges, Nodes}
-use Rattle.fb_plan.specs.declared.parts.Claim.{Claim}
+use Rattle.fb_plan.specs.declared.parts.OwnedRange.{OwnedRange}
 
 -- the range starts before the vertex and doesn't end before it
-abbrev pub is_open_before : ℕ → Claim → Bool
+abbrev pub is_open_before : ℕ → OwnedRange → Bool
 is_open_before v c = ltb c.start v && leb v c.end
 
 -- the range holds the vertex or ends there
-abbrev pub is_open_at : ℕ → Claim → Bool
+abbrev pub is_open_at : ℕ → OwnedRange → Bool
 is_open_at v c = leb c.start v && leb v c.end
 
-weight_fits : (m : Measure) (vertices : ℕ) (c : Claim) → IsClaim vertices c → weight_of m c < 2 ^ 64
+weight_fits : (m : Measure) (vertices : ℕ) (c : OwnedRange) → IsClaim vertices c → weight_of m c < 2 ^ 64
 weight_fits Ranges vertices c is = omega arith
 weight_fits Nodes vertices c is = is.node
 
-part_fits : (m : Measure) (vertices : ℕ) (test : Claim → Bool) (c : Claim) → IsClaim vertices c
+part_fits : (m : Measure) (vertices : ℕ) (test : OwnedRange → Bool) (c : OwnedRange) → IsClaim vertices c
     → cond (test c) (weight_of m c) 0 < 2 ^ 64
 part_fits m vertices test c is = step (test c)
   where
@@ -34,7 +34,7 @@ part_fits m vertices test c is = step (test c)
     step true = weight_fits m vertices c is
     step false = omega arith
 
-pub weigh_fits : (m : Measure) (vertices : ℕ) (test : Claim → Bool) (claims : List Claim) → All (IsClaim vertices) claims
+pub weigh_fits : (m : Measure) (vertices : ℕ) (test : OwnedRange → Bool) (claims : List OwnedRange) → All (IsClaim vertices) claims
     → weigh m test claims ≤ length claims * (2 ^ 64 - 1)
 weigh_fits m vertices test [] each = omega arith
 weigh_fits m vertices test (c ∷ claims) each =
@@ -45,7 +45,7 @@ weigh_fits m vertices test (c ∷ claims) each =
       weigh_fits m vertices test claims (All-tail (IsClaim vertices) c claims each),
     )
 
-weigh_split : (m : Measure) (first second both : Claim → Bool) (claims : List Claim)
+weigh_split : (m : Measure) (first second both : OwnedRange → Bool) (claims : List OwnedRange)
     → All (λ c. cond (first c) (weight_of m c) 0 + cond (second c) (weight_of m c) 0 ≡ cond (both c) (weight_of m c) 0) claims
     → weigh m first claims + weigh m second claims ≡ weigh m both claims
 weigh_split m first second both claims each =
@@ -57,13 +57,13 @@ parts x a b c (inl (same, none)) = rw (same, none) (omega arith)
 parts x a b c (inr (same, none)) = rw (same, none) (omega arith)
 
 -- those open before it and those that start there
-pub opened_more : (m : Measure) (vertices v : ℕ) (claims : List Claim) → All (IsClaim vertices) claims
+pub opened_more : (m : Measure) (vertices v : ℕ) (claims : List OwnedRange) → All (IsClaim vertices) claims
     → weigh m (is_open_before v) claims + bounded_at m Start claims v ≡ weigh m (is_open_at v) claims
 opened_more m vertices v claims each =
     weigh_split m (is_open_before v) (λ c. eqb c.start v) (is_open_at v) claims
     (λ k d less. at (get_or claims k d) (each k d less))
   where
-    at : (c : Claim) → IsClaim vertices c
+    at : (c : OwnedRange) → IsClaim vertices c
         → cond (is_open_before v c) (weight_of m c) 0 + cond (eqb c.start v) (weight_of m c) 0 ≡ cond (is_open_at v c) (weight_of m c) 0
     at c is =
         parts (weight_of m c) _ _ _ (elim (cases_order c.start v) [
@@ -82,13 +82,13 @@ opened_more m vertices v claims each =
         ])
 
 -- those that hold it and those that end there
-pub closed_less : (m : Measure) (vertices v : ℕ) (claims : List Claim) → All (IsClaim vertices) claims
+pub closed_less : (m : Measure) (vertices v : ℕ) (claims : List OwnedRange) → All (IsClaim vertices) claims
     → load_at m claims v + bounded_at m End claims v ≡ weigh m (is_open_at v) claims
 closed_less m vertices v claims each =
     weigh_split m (holds v) (λ c. eqb c.end v) (is_open_at v) claims
     (λ k d less. at (get_or claims k d) (each k d less))
   where
-    at : (c : Claim) → IsClaim vertices c
+    at : (c : OwnedRange) → IsClaim vertices c
         → cond (holds v c) (weight_of m c) 0 + cond (eqb c.end v) (weight_of m c) 0 ≡ cond (is_open_at v c) (weight_of m c) 0
     at c is =
         parts (weight_of m c) _ _ _ (elim (cases_order c.end v) [
@@ -107,31 +107,31 @@ closed_less m vertices v claims each =
         ])
 
 -- those that hold a vertex are open before the next one
-pub open_next : (m : Measure) (v : ℕ) (claims : List Claim)
+pub open_next : (m : Measure) (v : ℕ) (claims : List OwnedRange)
     → weigh m (is_open_before (v + 1)) claims ≡ load_at m claims v
 open_next m v claims =
     sum_same (λ c. cond (is_open_before (v + 1) c) (weight_of m c) 0) (λ c. cond (holds v c) (weight_of m c) 0) claims
     (λ k d less. ap (λ b. cond b (weight_of m (get_or claims k d)) 0) (at (get_or claims k d)))
   where
-    start_at : (c : Claim) → ltb c.start (v + 1) ≡ leb c.start v
+    start_at : (c : OwnedRange) → ltb c.start (v + 1) ≡ leb c.start v
     start_at c =
         elim (cases_lt v c.start) [
           | inl less ↦ le-ltb c.start (v + 1) (omega arith) ∙ sym (lt-leb c.start v less)
           | inr above ↦ lt-ltb c.start (v + 1) (omega arith) ∙ sym (le-leb c.start v above)
         ]
 
-    end_at : (c : Claim) → leb (v + 1) c.end ≡ ltb v c.end
+    end_at : (c : OwnedRange) → leb (v + 1) c.end ≡ ltb v c.end
     end_at c =
         elim (cases_lt v c.end) [
           | inl less ↦ le-leb (v + 1) c.end (omega arith) ∙ sym (lt-ltb v c.end less)
           | inr above ↦ lt-leb (v + 1) c.end (omega arith) ∙ sym (le-ltb v c.end above)
         ]
 
-    at : (c : Claim) → is_open_before (v + 1) c ≡ holds v c
+    at : (c : OwnedRange) → is_open_before (v + 1) c ≡ holds v c
     at c = rw (start_at c, end_at c) refl
 
 -- none is open before the first vertex
-pub open_first : (m : Measure) (claims : List Claim) → weigh m (is_open_before 0) claims ≡ 0
+pub open_first : (m : Measure) (claims : List OwnedRange) → weigh m (is_open_before 0) claims ≡ 0
 open_first m claims =
     sum_same (λ c. cond (is_open_before 0 c) (weight_of m c) 0) (λ c. 0) claims
     (λ k d less. ap (λ b. cond b (weight_of m (get_or claims k d)) 0)
@@ -139,7 +139,7 @@ open_first m claims =
     ∙ sum_zero claims
 
 -- one more range put at the place where it passes
-pub sums_more : (m : Measure) (bound : Bound) (sums : List ℕ) (claims : List Claim) (i n : ℕ) (d : Claim) (w : ℕ)
+pub sums_more : (m : Measure) (bound : Bound) (sums : List ℕ) (claims : List OwnedRange) (i n : ℕ) (d : OwnedRange) (w : ℕ)
     → length sums ≡ n + 1 → i < length claims → place_of bound (get_or claims i d) ≤ n
     → ((v : ℕ) → v ≤ n → get_or sums v 0 ≡ bounded_at m bound (take i claims) v)
     → w ≡ get_or sums (place_of bound (get_or claims i d)) 0 + weight_of m (get_or claims i d)
@@ -168,12 +168,12 @@ sums_more m bound sums claims i n d w count less low told is v below =
         ∙ ap (λ b. bounded_at m bound (take i claims) v + cond b (weight_of m (get_or claims i d)) 0)
         (sym (ne_eqb (place_of bound (get_or claims i d)) v (λ e. other (sym e))))
 
-pub place-le : (bound : Bound) (vertices : ℕ) (c : Claim) → IsClaim vertices c → place_of bound c ≤ vertices
+pub place-le : (bound : Bound) (vertices : ℕ) (c : OwnedRange) → IsClaim vertices c → place_of bound c ≤ vertices
 place-le Start vertices c is = omega (arith, is.order, is.end)
 place-le End vertices c is = is.end
 
 -- a sum over a front part, and one weight more
-pub sum_fits : (m : Measure) (vertices i : ℕ) (test : Claim → Bool) (claims : List Claim) (d : Claim)
+pub sum_fits : (m : Measure) (vertices i : ℕ) (test : OwnedRange → Bool) (claims : List OwnedRange) (d : OwnedRange)
     → All (IsClaim vertices) claims → i < length claims → length claims < 2 ^ 64
     → weigh m test (take i claims) + weight_of m (get_or claims i d) < 2 ^ 128
 sum_fits m vertices i test claims d each less count =
@@ -185,7 +185,7 @@ sum_fits m vertices i test claims d each less count =
     )
 
 -- one more vertex's sum
-pub loads_more : (m : Measure) (claims : List Claim) (sums : List ℕ) (v x : ℕ) → length sums ≡ v
+pub loads_more : (m : Measure) (claims : List OwnedRange) (sums : List ℕ) (v x : ℕ) → length sums ≡ v
     → ((k : ℕ) → k < v → get_or sums k 0 ≡ load_at m claims k) → x ≡ load_at m claims v
     → (k : ℕ) → k < v + 1 → get_or (sums ++ x ∷ []) k 0 ≡ load_at m claims k
 loads_more m claims sums v x count told is k below = step (cases_eq k v)

@@ -1,9 +1,9 @@
 -- The name of a fault of a plan in the program's output, and its place: a word, a number, both or neither.
 use Rattle.std.specs.Prelude.{ℕ, List, codes, Option, Some, None}
-use Rattle.fb_plan.specs.declared.faults.Member.{Member}
-use Rattle.fb_plan.specs.declared.faults.Member.TheVariants as member
-use Rattle.fb_plan.specs.declared.faults.Place.{Place}
-use Rattle.fb_plan.specs.declared.faults.Place.TheVariants as place
+use Rattle.fb_plan.specs.declared.faults.PlanMember.{PlanMember}
+use Rattle.fb_plan.specs.declared.faults.PlanMember.TheVariants as member
+use Rattle.fb_plan.specs.declared.faults.PlanPlace.{PlanPlace}
+use Rattle.fb_plan.specs.declared.faults.PlanPlace.TheVariants as place
 use Rattle.fb_plan.specs.declared.faults.PlanFault.{PlanFault}
 use Rattle.fb_plan.specs.declared.faults.PlanFault.TheVariants.{TooLong, NotJson, Missing, NotWhole, TooManyUnits, BadRange, VertexUnowned, VertexTwice, ChildOutOfRange, ChildUsedTwice, NotOneRoot, EdgeAcross, TooFewLayers, NoMemory}
 
@@ -23,19 +23,19 @@ fault_name (EdgeAcross e) = codes "EdgeAcross"
 fault_name (TooFewLayers h) = codes "TooFewLayers"
 fault_name NoMemory = codes "NoMemory"
 
-abbrev pub member_name : Member → List ℕ
+abbrev pub member_name : PlanMember → List ℕ
 member_name member.Units = codes "units"
 member_name member.Fusions = codes "fusions"
 
 -- the member that a place is in
-abbrev pub member_of : Place → Member
+abbrev pub member_of : PlanPlace → PlanMember
 member_of place.Units = member.Units
 member_of place.Fusions = member.Fusions
 member_of (place.Unit i) = member.Units
 member_of (place.Fusion i) = member.Fusions
 
 -- the number of an entry
-abbrev pub entry_number : Place → Option ℕ
+abbrev pub entry_number : PlanPlace → Option ℕ
 entry_number place.Units = None
 entry_number place.Fusions = None
 entry_number (place.Unit i) = Some i

@@ -6,7 +6,7 @@ use Rattle.fb_graph.specs.Problem.{edge_at}
 use Rattle.fb_graph.specs.Limits.{DecodingGraph, is_real_in}
 use Rattle.fb_graph.specs.Leasts.{least}
 use Rattle.fb_plan.specs.Plans.{PlanTree, most_units, names, join_at, goes_across}
-use Rattle.fb_plan.specs.declared.parts.Claim.{Claim}
+use Rattle.fb_plan.specs.declared.parts.OwnedRange.{OwnedRange}
 use Rattle.fb_plan.specs.declared.parts.Join.{Join}
 use Rattle.fb_plan.specs.declared.faults.PlanFault.{PlanFault}
 use Rattle.fb_plan.specs.declared.faults.PlanFault.TheVariants.{TooManyUnits, BadRange, VertexUnowned, VertexTwice, ChildOutOfRange, ChildUsedTwice, NotOneRoot, EdgeAcross}
@@ -24,16 +24,16 @@ abbrev pub ranges_of : List (List (ℕ × ℕ)) → List Join → List (List (�
 ranges_of units fusions = units ++ seams_of fusions
 
 -- a node's range
-abbrev pub claim_of : ℕ → ℕ × ℕ → Claim
+abbrev pub claim_of : ℕ → ℕ × ℕ → OwnedRange
 claim_of n range = record { node = n; start = range.0; end = range.1 }
 
 -- all ranges, the first list being of node n
-abbrev pub claims_from : ℕ → List (List (ℕ × ℕ)) → List Claim
+abbrev pub claims_from : ℕ → List (List (ℕ × ℕ)) → List OwnedRange
 claims_from n [] = []
 claims_from n (ranges ∷ more) = map (claim_of n) ranges ++ claims_from (n + 1) more
 
 -- the range holds the vertex
-abbrev pub holds : ℕ → Claim → Bool
+abbrev pub holds : ℕ → OwnedRange → Bool
 holds v c = nat_le c.start v && nat_lt v c.end
 
 -- the range ends before it starts, or beyond the vertices
@@ -45,15 +45,15 @@ abbrev pub is_bad_node : ℕ → List (List (ℕ × ℕ)) → ℕ → Bool
 is_bad_node vertices ranges n = list_any (is_bad_range vertices) (get_or ranges n [])
 
 -- the vertex is real and in no range
-abbrev pub is_unowned : DecodingGraph → List Claim → ℕ → Bool
+abbrev pub is_unowned : DecodingGraph → List OwnedRange → ℕ → Bool
 is_unowned g claims v = is_real_in g v && count_by (holds v) claims == 0
 
 -- the vertex is real and in two ranges
-abbrev pub is_owned_twice : DecodingGraph → List Claim → ℕ → Bool
+abbrev pub is_owned_twice : DecodingGraph → List OwnedRange → ℕ → Bool
 is_owned_twice g claims v = is_real_in g v && nat_lt 1 (count_by (holds v) claims)
 
 -- the node of the range that holds the vertex; None for a virtual vertex
-abbrev pub owner_in : DecodingGraph → List Claim → ℕ → Option ℕ
+abbrev pub owner_in : DecodingGraph → List OwnedRange → ℕ → Option ℕ
 owner_in g claims v = if is_real_in g v then option_map (λ c. c.node) (find (holds v) claims) else None
 
 -- fusion i names a node that isn't below its own number
@@ -85,10 +85,10 @@ units_fault units = if nat_lt most_units (length units) then Some TooManyUnits e
 abbrev pub range_fault : ℕ → List (List (ℕ × ℕ)) → Option PlanFault
 range_fault vertices ranges = option_map BadRange (least (length ranges) (is_bad_node vertices ranges))
 
-abbrev pub unowned_fault : DecodingGraph → List Claim → Option PlanFault
+abbrev pub unowned_fault : DecodingGraph → List OwnedRange → Option PlanFault
 unowned_fault g claims = option_map VertexUnowned (least g.vertices (is_unowned g claims))
 
-abbrev pub twice_fault : DecodingGraph → List Claim → Option PlanFault
+abbrev pub twice_fault : DecodingGraph → List OwnedRange → Option PlanFault
 twice_fault g claims = option_map VertexTwice (least g.vertices (is_owned_twice g claims))
 
 abbrev pub child_fault : ℕ → List (ℕ × ℕ) → Option PlanFault

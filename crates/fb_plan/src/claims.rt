@@ -6,7 +6,7 @@ ghost use Rattle.fb_plan.specs.InternalLoads.{IsClaim};
 ghost use Rattle.fb_plan.specs.Rules.{claim_of, claims_from, is_bad_range, range_fault, ranges_of};
 
 use crate::faults::PlanFault;
-use crate::parts::{Claim, Join};
+use crate::parts::{Join, OwnedRange};
 use fb_graph::NoMemory;
 use std::alloc::Global;
 
@@ -23,14 +23,14 @@ fn ranges_at<'a>(units: &'a [Vec<(u64, u64)>], fusions: &'a [Join], node: usize)
 }
 
 /// A node's range; `None` if it ends before it starts or beyond the vertices.
-fn claimed(vertices: u32, node: u64, range: (u64, u64)) -> Option<Claim>
+fn claimed(vertices: u32, node: u64, range: (u64, u64)) -> Option<OwnedRange>
     ensures { result ≡ (if is_bad_range vertices range then None else Some (claim_of node range)) }
 {
     let (start, end) = range;
     if end < start || u64::from(vertices) < end {
         None
     } else {
-        Some(Claim {
+        Some(OwnedRange {
             node,
             start: start as u32,
             end: end as u32,
@@ -40,7 +40,7 @@ fn claimed(vertices: u32, node: u64, range: (u64, u64)) -> Option<Claim>
 
 /// Adds a node's ranges, up to the first bad one.
 fn add_ranges(
-    claims: &mut Vec<Claim>,
+    claims: &mut Vec<OwnedRange>,
     vertices: u32,
     node: u64,
     ranges: &[(u64, u64)],
@@ -70,7 +70,7 @@ pub fn gather(
     units: &[Vec<(u64, u64)>],
     fusions: &[Join],
     nodes: usize,
-) -> Result<Vec<Claim>, PlanFault>
+) -> Result<Vec<OwnedRange>, PlanFault>
     requires { nodes ≡ length units.now + length fusions.now }
     ensures ok { IfOk result (λ v. v.items ≡ claims_from 0 (ranges_of (map (λ u. u.items) units.now) fusions.now)) }
     ensures each { IfOk result (λ v. All (IsClaim vertices) v.items) }

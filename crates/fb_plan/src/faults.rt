@@ -14,9 +14,9 @@ pub enum PlanFault {
     #[error("the text is not JSON")]
     NotJson,
     #[error("the member {0} is missing")]
-    Missing(Member),
+    Missing(PlanMember),
     #[error("{0} has not the form that it must have")]
-    NotWhole(Place),
+    NotWhole(PlanPlace),
     #[error("more than 4,096 units")]
     TooManyUnits,
     #[error("node {0} has a range that ends before it starts or is out of range")]
@@ -41,7 +41,7 @@ pub enum PlanFault {
 
 /// A member of a plan text's object.
 #[derive(Clone, Copy, Debug, PartialEq, Eq, Error)]
-pub enum Member {
+pub enum PlanMember {
     #[error("units")]
     Units,
     #[error("fusions")]
@@ -50,7 +50,7 @@ pub enum Member {
 
 /// A place in a plan text's object: a member, or one of its entries, counted from 0.
 #[derive(Clone, Copy, Debug, PartialEq, Eq, Error)]
-pub enum Place {
+pub enum PlanPlace {
     #[error("units")]
     Units,
     #[error("fusions")]
@@ -101,10 +101,10 @@ impl PlanFault {
     {
         match self {
             PlanFault::TooLong => Some("plan"),
-            PlanFault::Missing(Member::Units) => Some("units"),
-            PlanFault::Missing(Member::Fusions) => Some("fusions"),
-            PlanFault::NotWhole(Place::Units | Place::Unit(_)) => Some("units"),
-            PlanFault::NotWhole(Place::Fusions | Place::Fusion(_)) => Some("fusions"),
+            PlanFault::Missing(PlanMember::Units) => Some("units"),
+            PlanFault::Missing(PlanMember::Fusions) => Some("fusions"),
+            PlanFault::NotWhole(PlanPlace::Units | PlanPlace::Unit(_)) => Some("units"),
+            PlanFault::NotWhole(PlanPlace::Fusions | PlanPlace::Fusion(_)) => Some("fusions"),
             _ => None,
         }
     }
@@ -115,8 +115,8 @@ impl PlanFault {
         ensures { result ≡ fault_number self }
     {
         match self {
-            PlanFault::NotWhole(Place::Unit(i)) => Some(i),
-            PlanFault::NotWhole(Place::Fusion(i)) => Some(i),
+            PlanFault::NotWhole(PlanPlace::Unit(i)) => Some(i),
+            PlanFault::NotWhole(PlanPlace::Fusion(i)) => Some(i),
             PlanFault::BadRange(i) => Some(i),
             PlanFault::VertexUnowned(i) => Some(i),
             PlanFault::VertexTwice(i) => Some(i),

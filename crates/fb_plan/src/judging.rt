@@ -11,7 +11,7 @@ ghost use Rattle.fb_graph.specs.Leasts.{least};
 
 use crate::faults::PlanFault;
 use crate::loads::{Measure, loads};
-use crate::parts::{Claim, Join};
+use crate::parts::{Join, OwnedRange};
 use crate::plan::Plan;
 use fb_graph::{Graph, NoMemory};
 use std::alloc::Global;
@@ -21,7 +21,7 @@ use std::alloc::Global;
 pub fn judge_cover(
     alloc: Global,
     graph: &Graph,
-    claims: &[Claim],
+    claims: &[OwnedRange],
 ) -> Result<Option<PlanFault>, NoMemory>
     requires { All (IsClaim graph.now.vertices) claims.now }
     ensures { IfOk result (λ fault. fault ≡ option_or (unowned_fault graph.now claims.now) (twice_fault graph.now claims.now)) }

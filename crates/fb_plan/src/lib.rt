@@ -16,7 +16,7 @@ pub mod reach;
 pub mod scope;
 mod tree;
 
-pub use faults::{Member, Place, PlanFault};
+pub use faults::{PlanFault, PlanMember, PlanPlace};
 pub use job::Job;
 pub use laws::{children_apart, one_root, seam_apart, sub_problems, subtrees};
 pub use parts::Join;

@@ -3,7 +3,7 @@
 ghost use Rattle.std.specs.Prelude.{◌≡◌, ℕ, ◌+◌, ◌<◌, ◌≤◌, ◌^◌, length, get_or, All, IfOk, OnOk};
 ghost use Rattle.fb_plan.specs.InternalLoads.{IsClaim, bounded_at, load_at, place_of, weight_of};
 
-use crate::parts::Claim;
+use crate::parts::OwnedRange;
 use fb_graph::NoMemory;
 use std::alloc::Global;
 
@@ -22,7 +22,7 @@ enum Bound {
 }
 
 /// What a range counts.
-fn weight(measure: Measure, claim: Claim) -> u64
+fn weight(measure: Measure, claim: OwnedRange) -> u64
     ensures { result ≡ weight_of measure claim }
 {
     match measure {
@@ -31,7 +31,7 @@ fn weight(measure: Measure, claim: Claim) -> u64
     }
 }
 
-fn place(bound: Bound, claim: Claim) -> u32
+fn place(bound: Bound, claim: OwnedRange) -> u32
     ensures { result ≡ place_of bound claim }
 {
     match bound {
@@ -44,7 +44,7 @@ fn place(bound: Bound, claim: Claim) -> u32
 fn sums_at(
     alloc: Global,
     vertices: u32,
-    claims: &[Claim],
+    claims: &[OwnedRange],
     measure: Measure,
     bound: Bound,
 ) -> Result<Vec<u128>, NoMemory>
@@ -73,7 +73,7 @@ fn sum_at(sums: &[u128], v: u32) -> u128
 pub fn loads(
     alloc: Global,
     vertices: u32,
-    claims: &[Claim],
+    claims: &[OwnedRange],
     measure: Measure,
 ) -> Result<Vec<u128>, NoMemory>
     requires { All (IsClaim vertices) claims.now }

@@ -17,7 +17,7 @@ pub struct Span {
 
 /// A range of a node: the vertices from `start` up to and without `end`.
 #[derive(Clone, Copy)]
-pub struct Claim {
+pub struct OwnedRange {
     pub node: u64,
     pub start: u32,
     pub end: u32,

@@ -16,7 +16,7 @@ use crate::judging::{first_across, judge_cover, judge_fusions};
 use crate::loads::{Measure, loads};
 use crate::order::{Extent, Order, order_of};
 use crate::owners::{owned_by, owned_by_one, pairs_of};
-use crate::parts::{Claim, Join, Span};
+use crate::parts::{Join, OwnedRange, Span};
 use crate::reach::{Reach, reaches_of};
 use crate::tree::{parents_of, spans_of};
 use fb_graph::{Graph, NoMemory};
@@ -109,7 +109,7 @@ impl Plan {
     fn grown(
         alloc: Global,
         graph: &Graph,
-        claims: &[Claim],
+        claims: &[OwnedRange],
         units: u32,
         fusions: &[Join],
     ) -> Result<Plan, NoMemory>

@@ -7,9 +7,9 @@ use Rattle.fb_graph.specs.Limits.{DecodingGraph}
 use Rattle.fb_json.specs.JsonText.{most_bytes, with_option, with_result, value_of, natural_of, entries_by}
 use Rattle.fb_plan.specs.Plans.{PlanTree}
 use Rattle.fb_plan.specs.Rules.{plan_by}
-use Rattle.fb_plan.specs.declared.faults.Member.TheVariants as member
-use Rattle.fb_plan.specs.declared.faults.Place.{Place}
-use Rattle.fb_plan.specs.declared.faults.Place.TheVariants as place
+use Rattle.fb_plan.specs.declared.faults.PlanMember.TheVariants as member
+use Rattle.fb_plan.specs.declared.faults.PlanPlace.{PlanPlace}
+use Rattle.fb_plan.specs.declared.faults.PlanPlace.TheVariants as place
 use Rattle.fb_plan.specs.declared.faults.PlanFault.{PlanFault}
 use Rattle.fb_plan.specs.declared.faults.PlanFault.TheVariants.{TooLong, NotJson, Missing, NotWhole}
 
@@ -52,7 +52,7 @@ fusion_of d =
     (pair_of nodes)) (get (codes "interface") d)) (get (codes "of") d)
 
 -- the entries of a list, the first of which has number i, or the place of the first one that isn't of its form
-abbrev pub entries_of : {A : Type 0} → (Data → Option A) → (ℕ → Place) → ℕ → Items → Result (List A) PlanFault
+abbrev pub entries_of : {A : Type 0} → (Data → Option A) → (ℕ → PlanPlace) → ℕ → Items → Result (List A) PlanFault
 entries_of entry_of at = entries_by entry_of (λ i. NotWhole (at i))
 
 -- what the value says: the ranges of each unit, and the fusions

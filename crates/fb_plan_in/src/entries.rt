@@ -6,7 +6,7 @@ ghost use Rattle.fb_plan_in.specs.PlanText.{pair_of, pairs_of, ranges_of, fusion
 ghost use Rattle.fb_plan_in.specs.InternalFusions.{fusion_from};
 
 use fb_graph::NoMemory;
-use fb_plan::{Join, Place, PlanFault};
+use fb_plan::{Join, PlanFault, PlanPlace};
 use serde_json::Value;
 use std::alloc::Global;
 
@@ -68,10 +68,10 @@ fn fusion(alloc: Global, value: &Value) -> Result<Option<Join>, NoMemory>
 
 /// The ranges of each of `units`, or the place of the first entry that is not of its form.
 pub fn units(alloc: Global, values: &[Value]) -> Result<Vec<Vec<(u64, u64)>>, PlanFault>
-    ensures ok { IfOk result (λ v. entries_of ranges_of Place.Unit 0 (items_view values.now)
+    ensures ok { IfOk result (λ v. entries_of ranges_of PlanPlace.Unit 0 (items_view values.now)
         ≡ Ok (map (λ u. u.items) v.items)) }
     ensures err { IfErr result (λ e. e ≢ PlanFault.NoMemory
-        → entries_of ranges_of Place.Unit 0 (items_view values.now) ≡ Err e) }
+        → entries_of ranges_of PlanPlace.Unit 0 (items_view values.now) ≡ Err e) }
 {
     let Ok(mut found) = Vec::with_capacity(alloc, values.len()) else {
         return Err(PlanFault::NoMemory);
@@ -81,7 +81,7 @@ pub fn units(alloc: Global, values: &[Value]) -> Result<Vec<Vec<(u64, u64)>>, Pl
             return Err(PlanFault::NoMemory);
         };
         let Some(entry) = entry else {
-            return Err(PlanFault::NotWhole(Place::Unit(i as u64)));
+            return Err(PlanFault::NotWhole(PlanPlace::Unit(i as u64)));
         };
         if found.push(entry).is_err() {
             return Err(PlanFault::NoMemory);
@@ -92,10 +92,10 @@ pub fn units(alloc: Global, values: &[Value]) -> Result<Vec<Vec<(u64, u64)>>, Pl
 
 /// The joins of `fusions`, or the place of the first entry that is not of its form.
 pub fn fusions(alloc: Global, values: &[Value]) -> Result<Vec<Join>, PlanFault>
-    ensures ok { IfOk result (λ v. entries_of fusion_of Place.Fusion 0 (items_view values.now)
+    ensures ok { IfOk result (λ v. entries_of fusion_of PlanPlace.Fusion 0 (items_view values.now)
         ≡ Ok (map fusion_from v.items)) }
     ensures err { IfErr result (λ e. e ≢ PlanFault.NoMemory
-        → entries_of fusion_of Place.Fusion 0 (items_view values.now) ≡ Err e) }
+        → entries_of fusion_of PlanPlace.Fusion 0 (items_view values.now) ≡ Err e) }
 {
     let Ok(mut found) = Vec::with_capacity(alloc, values.len()) else {
         return Err(PlanFault::NoMemory);
@@ -105,7 +105,7 @@ pub fn fusions(alloc: Global, values: &[Value]) -> Result<Vec<Join>, PlanFault>
             return Err(PlanFault::NoMemory);
         };
         let Some(entry) = entry else {
-            return Err(PlanFault::NotWhole(Place::Fusion(i as u64)));
+            return Err(PlanFault::NotWhole(PlanPlace::Fusion(i as u64)));
         };
         if found.push(entry).is_err() {
             return Err(PlanFault::NoMemory);

@@ -7,43 +7,43 @@ ghost use Rattle.fb_plan_in.specs.InternalFusions.{fusion_from};
 
 use crate::entries::{fusions, units};
 use fb_json::{MOST_TEXT_BYTES, NoValue, read_value};
-use fb_plan::{Join, Member, Place, PlanFault};
+use fb_plan::{Join, PlanFault, PlanMember, PlanPlace};
 use serde_json::Value;
 use std::alloc::Global;
 
 /// The ranges of the units and the fusions, before the rules of a plan are judged.
 #[derive(Drop)]
-pub struct Parts {
+pub struct PlanRanges {
     pub units: Vec<Vec<(u64, u64)>>,
     pub fusions: Vec<Join>,
 }
 
 /// What a value says, or the first rule that it breaks.
 #[tactic(auto, unfolding(crate::specs::PlanText::parts_of))]
-fn parts_in(alloc: Global, value: &Value) -> Result<Parts, PlanFault>
+fn parts_in(alloc: Global, value: &Value) -> Result<PlanRanges, PlanFault>
     ensures ok { IfOk result (λ p. parts_of (view value.now)
         ≡ Ok (map (λ u. u.items) p.units.items, map fusion_from p.fusions.items)) }
     ensures err { IfErr result (λ e. e ≢ PlanFault.NoMemory → parts_of (view value.now) ≡ Err e) }
 {
     let Some(unit_list) = value.get("units") else {
-        return Err(PlanFault::Missing(Member::Units));
+        return Err(PlanFault::Missing(PlanMember::Units));
     };
     let Some(fusion_list) = value.get("fusions") else {
-        return Err(PlanFault::Missing(Member::Fusions));
+        return Err(PlanFault::Missing(PlanMember::Fusions));
     };
     let Some(unit_list) = unit_list.as_array() else {
-        return Err(PlanFault::NotWhole(Place::Units));
+        return Err(PlanFault::NotWhole(PlanPlace::Units));
     };
     let Some(fusion_list) = fusion_list.as_array() else {
-        return Err(PlanFault::NotWhole(Place::Fusions));
+        return Err(PlanFault::NotWhole(PlanPlace::Fusions));
     };
     let units = units(alloc, unit_list)?;
     let fusions = fusions(alloc, fusion_list)?;
-    Ok(Parts { units, fusions })
+    Ok(PlanRanges { units, fusions })
 }
 
 /// What a text says, or the first rule that it breaks. The JSON value is gone when it is given.
-pub fn read_parts(alloc: Global, bytes: &[u8]) -> Result<Parts, PlanFault>
+pub fn read_parts(alloc: Global, bytes: &[u8]) -> Result<PlanRanges, PlanFault>
     ensures ok { IfOk result (λ p. parts_of_text bytes.now
         ≡ Ok (map (λ u. u.items) p.units.items, map fusion_from p.fusions.items)) }
     ensures err { IfErr result (λ e. e ≢ PlanFault.NoMemory → parts_of_text bytes.now ≡ Err e) }

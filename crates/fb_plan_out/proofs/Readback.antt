@@ -18,7 +18,7 @@ use Rattle.serde_json.proofs.Numbers.{number_of-decimal}
 use Rattle.fb_plan.specs.Plans.{PlanTree, join_at}
 use Rattle.fb_plan.specs.declared.faults.PlanFault.{PlanFault}
 use Rattle.fb_plan.specs.declared.faults.PlanFault.TheVariants.{NotWhole}
-use Rattle.fb_plan.specs.declared.faults.Place.TheVariants as place
+use Rattle.fb_plan.specs.declared.faults.PlanPlace.TheVariants as place
 use Rattle.fb_json.specs.JsonText.{value_of, entries_by}
 use Rattle.fb_plan_in.specs.PlanText.{Fusion, fusion_of, pairs_of, parts_of, ranges_of}
 use Rattle.fb_plan_out.specs.PlanWriting.{items_from, pair_json, ranges_json, ranges_at, unit_json, fusion_json, plan_json, text_of_plan}

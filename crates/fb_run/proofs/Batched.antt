@@ -19,7 +19,7 @@ use Rattle.fb_run.specs.Decoding.{AnswersBatch, AreBatches, Batch, all_rows, bat
 use Rattle.fb_run.specs.InternalBatches.{AddsCounts}
 use Rattle.fb_run.specs.Rows.{Counts, counts_of, is_odd}
 use Rattle.fb_run.specs.InternalWrites.{tally_with, counts_in}
-use Rattle.fb_run.specs.declared.batches.Tally.{Tally}
+use Rattle.fb_run.specs.declared.batches.RowCounts.{RowCounts}
 use Rattle.fb_report.specs.Texts.{rows_text}
 use Rattle.fb_request.specs.Requests.{Decoding}
 
@@ -46,22 +46,22 @@ counts_all (r ∷ rows) = omega (
 same_counts : (a b c d : ℕ) → a ≡ c → b ≡ d → ◌≡◌ {A = Counts} (record { best = a; odd = b }) (record { best = c; odd = d })
 same_counts a b c d p q = cc
 
-pub counts_added : (tally more : Tally) (rows added : List Row) → counts_in tally ≡ counts_of rows → AddsCounts tally more added
+pub counts_added : (tally more : RowCounts) (rows added : List Row) → counts_in tally ≡ counts_of rows → AddsCounts tally more added
     → counts_in more ≡ counts_of (rows ++ added)
 counts_added tally more rows added so_far adds = same_counts _ _ _ _
     (adds.best ∙ ap (λ (c : Counts). c.best + (counts_of added).best) so_far ∙ sym (count_by-append is_best rows added))
     (adds.odd ∙ ap (λ (c : Counts). c.odd + (counts_of added).odd) so_far ∙ sym (count_by-append is_odd rows added))
 
 -- the count of all rows, with these
-pub rows_added : (tally more : Tally) (rows : List Row) → AddsCounts tally more rows → more.best + more.odd ≡ (tally.best + tally.odd) + length rows
+pub rows_added : (tally more : RowCounts) (rows : List Row) → AddsCounts tally more rows → more.best + more.odd ≡ (tally.best + tally.odd) + length rows
 rows_added tally more rows adds = omega (arith, adds.best, adds.odd, counts_all rows)
 
-pub rows_added-take : (tally more : Tally) (rows : List Row) (i : ℕ) → i ≤ length rows → AddsCounts tally more (take i rows)
+pub rows_added-take : (tally more : RowCounts) (rows : List Row) (i : ℕ) → i ≤ length rows → AddsCounts tally more (take i rows)
     → more.best + more.odd ≡ (tally.best + tally.odd) + i
 rows_added-take tally more rows i le adds = omega (arith, rows_added tally more (take i rows) adds, length-take-le i rows le)
 
 -- one more of the rows is counted
-pub counts-take : (tally now : Tally) (rows : List Row) (i : ℕ) (row : Row) → i < length rows → row ≡ get_or rows i row → AddsCounts tally now (take i rows)
+pub counts-take : (tally now : RowCounts) (rows : List Row) (i : ℕ) (row : Row) → i < length rows → row ≡ get_or rows i row → AddsCounts tally now (take i rows)
     → AddsCounts tally (tally_with now row) (take (i + 1) rows)
 counts-take tally now rows i row less is adds = subst (AddsCounts tally (tally_with now row))
     (ap (λ r. take i rows ++ r ∷ []) is ∙ sym (take_more rows i row less))
@@ -77,7 +77,7 @@ counts-take tally now rows i row less is adds = subst (AddsCounts tally (tally_w
       odd = omega (arith, adds.odd, count_by-append is_odd (take i rows) (Odd v ∷ []));
     }
 
-pub counted_rows : (tally : Tally) (rows : List Row) → counts_in tally ≡ counts_of rows → tally.best + tally.odd ≡ length rows
+pub counted_rows : (tally : RowCounts) (rows : List Row) → counts_in tally ≡ counts_of rows → tally.best + tally.odd ≡ length rows
 counted_rows tally rows e = ap (λ (c : Counts). c.best + c.odd) e ∙ counts_all rows
 
 -- ---- rows and texts

@@ -20,7 +20,7 @@ use Rattle.fb_run.specs.Decoding.{AnswersBatch, AreBatches, Batch, HaveWholeWind
 use Rattle.fb_run.specs.InternalBatches.{AddsCounts, TakesBatch}
 use Rattle.fb_run.specs.Rows.{counts_of}
 use Rattle.fb_run.specs.InternalWrites.{WritesBatches, WritesFirstBatches, counts_in}
-use Rattle.fb_run.specs.declared.batches.Tally.{Tally}
+use Rattle.fb_run.specs.declared.batches.RowCounts.{RowCounts}
 use Rattle.fb_request.specs.declared.format.Format.{Format}
 use Rattle.fb_shots.specs.Steps.{IsReadOut}
 use Rattle.fb_shots.specs.Streams.{Stream, fresh}
@@ -43,7 +43,7 @@ none_decoded Ends request t left format g out = record {
 
 module _ (request : Decoding) (t : PlanTree) (start : Stream) (before out : Option (List ℕ)) where
   -- The batches of the shots that a stream has given were written, and their rows are counted.
-  pub record HasDecoded (now : Stream) (after new : Option (List ℕ)) (tally : Tally) : Type 0 where
+  pub record HasDecoded (now : Stream) (after new : Option (List ℕ)) (tally : RowCounts) : Type 0 where
     pub shots : List ShotValue
     pub gives : GivesShots start now before after shots
     pub batches : List Batch
@@ -52,11 +52,11 @@ module _ (request : Decoding) (t : PlanTree) (start : Stream) (before out : Opti
     pub counts : counts_in tally ≡ counts_of (all_rows batches)
 
   -- the same, and each batch has as many shots as the window
-  pub record IsDecoding (now : Stream) (after new : Option (List ℕ)) (tally : Tally) : Type 0 where
+  pub record IsDecoding (now : Stream) (after new : Option (List ℕ)) (tally : RowCounts) : Type 0 where
     pub so_far : HasDecoded now after new tally
     pub full : length so_far.shots ≡ request.window * length so_far.batches
 
-  pub decoding_begins : (tally : Tally) → tally.best ≡ 0 → tally.odd ≡ 0 → IsDecoding start before out tally
+  pub decoding_begins : (tally : RowCounts) → tally.best ≡ 0 → tally.odd ≡ 0 → IsDecoding start before out tally
   decoding_begins tally best odd = record {
     so_far = record {
       shots = [];
@@ -69,7 +69,7 @@ module _ (request : Decoding) (t : PlanTree) (start : Stream) (before out : Opti
     full = omega arith;
   }
 
-  module _ (is_fresh : start ≡ fresh start.format start.graph most_shots) (now : Stream) (after new : Option (List ℕ)) (tally : Tally) (decoding : IsDecoding now after new tally) where
+  module _ (is_fresh : start ≡ fresh start.format start.graph most_shots) (now : Stream) (after new : Option (List ℕ)) (tally : RowCounts) (decoding : IsDecoding now after new tally) where
     abbrev so_far : HasDecoded now after new tally
     so_far = decoding.so_far
 
@@ -159,7 +159,7 @@ module _ (request : Decoding) (t : PlanTree) (start : Stream) (before out : Opti
               (prefix_second out new newer (batches_text request.trace 0 so_far.batches) (batch_text request.trace (tally.best + tally.odd) b) so_far.written part);
         }
 
-        module _ (counts : Tally) (all : Appends new newer (batch_text request.trace (tally.best + tally.odd) b)) (counted : AddsCounts tally counts b.rows) where
+        module _ (counts : RowCounts) (all : Appends new newer (batch_text request.trace (tally.best + tally.odd) b)) (counted : AddsCounts tally counts b.rows) where
           more_decoded : HasDecoded taken.takes.middle taken.takes.between newer counts
           more_decoded = record {
             shots = shots;

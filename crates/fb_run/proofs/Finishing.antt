@@ -23,7 +23,7 @@ use Rattle.fb_run.specs.InternalWrites.{EndsReport, WritesBatches, WritesFirstBa
 use Rattle.fb_request.specs.Requests.{Decoding}
 use Rattle.fb_exits.specs.declared.ending.Cause.{Cause}
 use Rattle.fb_exits.specs.declared.ending.Cause.TheVariants.{Done, Odd, ReadFault}
-use Rattle.fb_run.specs.declared.batches.Tally.{Tally}
+use Rattle.fb_run.specs.declared.batches.RowCounts.{RowCounts}
 use Rattle.fb_files.specs.declared.taking.ShotsEnd.{ShotsEnd}
 use Rattle.fb_files.specs.declared.taking.ShotsEnd.TheVariants as end
 
@@ -93,7 +93,7 @@ module _ (request : Decoding) (g : DecodingGraph) (t : PlanTree) (before after :
       by_odd true is = rw is (rw is at wrote)
       by_odd false is = rw is (rw is at wrote)
 
-  pub ends_on : (opened_left mid last : Option (List ℕ)) (ended : ShotsEnd) (tally : Tally) (cause : Cause) → IsOpened before.named request.shots opened_left
+  pub ends_on : (opened_left mid last : Option (List ℕ)) (ended : ShotsEnd) (tally : RowCounts) (cause : Cause) → IsOpened before.named request.shots opened_left
       → Appends before.written mid head_text
       → WritesBatches (λ shots. GathersFrom opened_left request.format g after.left shots ended) request g t mid last tally
       → EndsReport t ended (tally.best + tally.odd) (counts_in tally) last after.written cause

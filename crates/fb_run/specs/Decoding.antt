@@ -2,8 +2,8 @@
 use Rattle.std.specs.Prelude.{ℕ, ◌≡◌, ◌≢◌, ◌+◌, ◌*◌, ◌==◌, if◌then◌else◌, Bool, true, false, List, [], ◌∷◌, ◌++◌, length, take, drop, All}
 use Rattle.std.specs.List.{flat_map}
 use Rattle.fb_book.specs.declared.entries.Entry.{Entry}
-use Rattle.fb_book.specs.declared.entries.Kind.{Kind}
-use Rattle.fb_book.specs.declared.entries.Kind.TheVariants.{Took, Gave, Left}
+use Rattle.fb_book.specs.declared.entries.EntryKind.{EntryKind}
+use Rattle.fb_book.specs.declared.entries.EntryKind.TheVariants.{Took, Gave, Left}
 use Rattle.fb_crew.specs.Windows.{AreRows, IsHistoryOf}
 use Rattle.fb_graph.specs.Limits.{DecodingGraph, IsGraph, IsShot, ShotValue}
 use Rattle.fb_graph.specs.declared.parts.Row.{Row}
@@ -20,7 +20,7 @@ pub record Batch : Type 0 where
   pub rows : List Row
   pub history : List Entry
 
-abbrev pub is_gave : Kind → Bool
+abbrev pub is_gave : EntryKind → Bool
 is_gave Took = false
 is_gave Gave = true
 is_gave Left = false

@@ -8,7 +8,7 @@ use Rattle.fb_files.specs.declared.taking.ShotsEnd.{ShotsEnd}
 use Rattle.fb_plan.specs.Plans.{PlanTree}
 use Rattle.fb_run.specs.Decoding.{AnswersBatch, Batch}
 use Rattle.fb_run.specs.Rows.{counts_of}
-use Rattle.fb_run.specs.declared.batches.Tally.{Tally}
+use Rattle.fb_run.specs.declared.batches.RowCounts.{RowCounts}
 use Rattle.fb_shots.specs.Streams.{Stream}
 use Rattle.fb_request.specs.Requests.{Decoding}
 
@@ -22,6 +22,6 @@ pub record TakesBatch (request : Decoding) (t : PlanTree) (old new : Stream) (be
   pub answers : AnswersBatch request old.graph t shots b
 
 -- these rows were counted too
-pub record AddsCounts (tally more : Tally) (rows : List Row) : Type 0 where
+pub record AddsCounts (tally more : RowCounts) (rows : List Row) : Type 0 where
   pub best : more.best ≡ tally.best + (counts_of rows).best
   pub odd : more.odd ≡ tally.odd + (counts_of rows).odd

@@ -11,19 +11,19 @@ use Rattle.fb_request.specs.Requests.{Decoding}
 use Rattle.fb_exits.specs.declared.ending.Cause.{Cause}
 use Rattle.fb_exits.specs.declared.ending.Cause.TheVariants.{Refused, ReadFault, WriteFault}
 use Rattle.fb_exits.specs.declared.ending.Refusal.TheVariants as refusal
-use Rattle.fb_run.specs.declared.batches.Tally.{Tally}
+use Rattle.fb_run.specs.declared.batches.RowCounts.{RowCounts}
 use Rattle.fb_files.specs.declared.taking.ShotsEnd.{ShotsEnd}
 use Rattle.fb_files.specs.declared.taking.ShotsEnd.TheVariants as end
 
-abbrev pub counts_in : Tally → Counts
+abbrev pub counts_in : RowCounts → Counts
 counts_in t = record { best = t.best; odd = t.odd }
 
 -- one row more
-abbrev pub tally_with : Tally → Row → Tally
+abbrev pub tally_with : RowCounts → Row → RowCounts
 tally_with t r = if is_best r then record t { best = t.best + 1 } else record t { odd = t.odd + 1 }
 
 -- The batches of the shots that the input gives were written, and their rows are counted so.
-pub record WritesBatches (Input : List ShotValue → Type 0) (request : Decoding) (g : DecodingGraph) (t : PlanTree) (old new : Option (List ℕ)) (tally : Tally) : Type 0 where
+pub record WritesBatches (Input : List ShotValue → Type 0) (request : Decoding) (g : DecodingGraph) (t : PlanTree) (old new : Option (List ℕ)) (tally : RowCounts) : Type 0 where
   pub shots : List ShotValue
   pub input : Input shots
   pub batches : List Batch

@@ -16,7 +16,7 @@ ghost use Rattle.fb_run.specs.InternalWrites.{WritesBatches, WritesFirstBatches,
 ghost use Rattle.fb_request.specs.PlainRequests.{plain_decoding};
 
 use crate::busy::decode_busy;
-use fb_crew::{Crew, Entry, Gate, Kind, Window};
+use fb_crew::{Crew, Entry, EntryKind, Gate, Window};
 use fb_exits::Cause;
 use fb_files::{MOST_SHOTS, ShotsEnd, take_window};
 use fb_graph::{Graph, NoMemory, Row, Shot};
@@ -29,7 +29,7 @@ use std::thread::Threads;
 
 /// How many rows are corrections, and how many are odd.
 #[derive(Clone, Copy, Debug, PartialEq, Eq)]
-pub struct Tally {
+pub struct RowCounts {
     pub best: u64,
     pub odd: u64,
 }
@@ -37,7 +37,7 @@ pub struct Tally {
 /// The rows of a file's shots by their number, and how the shots ended.
 #[derive(Clone, Copy, Debug, PartialEq, Eq)]
 pub struct Decoded {
-    pub tally: Tally,
+    pub tally: RowCounts,
     pub end: ShotsEnd,
 }
 
@@ -48,7 +48,7 @@ struct NextBatch {
     end: Option<ShotsEnd>,
 }
 
-impl Tally {
+impl RowCounts {
     /// How a decode of all shots ends.
     pub fn cause(self) -> Cause
         ensures { result ≡ cause_of (counts_in self) }
@@ -69,17 +69,17 @@ impl Tally {
     }
 
     /// The tally with one row more.
-    fn with_row(self, row: &Row) -> Tally
+    fn with_row(self, row: &Row) -> RowCounts
         requires best { self.best < 2 ^ 32 }
         requires odd { self.odd < 2 ^ 32 }
         ensures { result ≡ tally_with self row.now }
     {
         match row {
-            Row::Best { .. } => Tally {
+            Row::Best { .. } => RowCounts {
                 best: self.best + 1,
                 ..self
             },
-            Row::Odd(_) => Tally {
+            Row::Odd(_) => RowCounts {
                 odd: self.odd + 1,
                 ..self
             },
@@ -162,7 +162,7 @@ fn decode_stream<F: Files, O: Sink, G: Gate, R: Threads + Sync>(
     ensures never_falls { F.faults files.old ≤ F.faults files.new }
     ensures writes { CountsFault (result ≡ Err RowsFault.WriteFault) (O.faults out.old) (O.faults out.new) }
 {
-    let mut tally = Tally { best: 0, odd: 0 };
+    let mut tally = RowCounts { best: 0, odd: 0 };
     loop {
         let Ok(next) = next_batch(rt, alloc, request, crew, files, stream, gate) else {
             return Err(RowsFault::NoMemory);
@@ -234,11 +234,11 @@ fn solve_batch<G: Gate, R: Threads + Sync>(
 /// with these rows.
 fn write_batch<O: Sink>(
     batch: &Window,
-    tally: Tally,
+    tally: RowCounts,
     trace: bool,
     outbox: &mut Outbox,
     out: &mut O,
-) -> Result<Tally, RowsFault>
+) -> Result<RowCounts, RowsFault>
     requires few { tally.best + tally.odd + length batch.now.rows.items < 2 ^ 32 }
     requires slots { trace ≡ true → All (λ e. e.slot < length batch.now.rows.items) batch.now.history.items }
     requires empty { outbox.old.text ≡ [] }
@@ -263,10 +263,10 @@ fn write_batch<O: Sink>(
 /// Returns the count with these rows.
 fn add_batch(
     outbox: &mut Outbox,
-    tally: Tally,
+    tally: RowCounts,
     trace: bool,
     batch: &Window,
-) -> Result<Tally, NoMemory>
+) -> Result<RowCounts, NoMemory>
     requires few { tally.best + tally.odd + length batch.now.rows.items < 2 ^ 32 }
     requires slots { trace ≡ true → All (λ e. e.slot < length batch.now.rows.items) batch.now.history.items }
     ensures text { IfOk result (λ more. outbox.new.text
@@ -282,7 +282,7 @@ fn add_batch(
 }
 
 /// Adds rows to the outbox, which follow those that are counted. Returns the count with these.
-fn add_rows(outbox: &mut Outbox, tally: Tally, rows: &[Row]) -> Result<Tally, NoMemory>
+fn add_rows(outbox: &mut Outbox, tally: RowCounts, rows: &[Row]) -> Result<RowCounts, NoMemory>
     requires few { tally.best + tally.odd + length rows.now < 2 ^ 32 }
     ensures text { IfOk result (λ more. outbox.new.text ≡ outbox.old.text ++ rows_text (tally.best + tally.odd) rows.now) }
     ensures counts { IfOk result (λ more. AddsCounts tally more rows.now) }
@@ -303,7 +303,7 @@ fn add_events(outbox: &mut Outbox, first: u32, history: &[Entry]) -> Result<(), 
     ensures { OnOk result (outbox.new.text ≡ outbox.old.text ++ events_text true first history.now) }
 {
     for entry in history {
-        let gave = matches!(entry.kind, Kind::Gave);
+        let gave = matches!(entry.kind, EntryKind::Gave);
         let Ok(()) = write_trace(outbox, gave, entry.worker, first + entry.slot, entry.node) else {
             return Err(NoMemory);
         };

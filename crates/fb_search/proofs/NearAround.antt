@@ -17,7 +17,7 @@ use Rattle.fb_graph.proofs.Members.{is_in-append}
 use Rattle.fb_graph.proofs.Ranges.{is_in-filter-range}
 use Rattle.fb_obstacles.specs.Obstacles.{residue_of}
 use Rattle.fb_obstacles.specs.declared.singles.Around.{Around}
-use Rattle.fb_obstacles.specs.declared.singles.Reach.{Reach}
+use Rattle.fb_obstacles.specs.declared.singles.EdgeAtSingle.{EdgeAtSingle}
 use Rattle.fb_obstacles.specs.InternalSingles.{HasRoom, IsReach, is_nearer, room_with, with_best}
 use Rattle.fb_search.specs.InternalNear.{IsTarget, is_target, with_reach}
 use Rattle.fb_search.proofs.NearEdges.{target_is}
@@ -53,12 +53,12 @@ is_in-push xs y k within = by (is_in xs k) refl (sym (is_in-append xs (y ∷ [])
     by false old within = inl (is_in-one y k within)
 
 -- the best edge has at most this residue
-abbrev pub IsAtMost : Option Reach → ℕ → Type 0
+abbrev pub IsAtMost : Option EdgeAtSingle → ℕ → Type 0
 IsAtMost None n = ⊥
 IsAtMost (Some r) n = r.length ≤ n
 
 -- the best edge is this one
-abbrev pub IsBest : Option Reach → ℕ → Type 0
+abbrev pub IsBest : Option EdgeAtSingle → ℕ → Type 0
 IsBest None k = ⊥
 IsBest (Some r) k = r.edge ≡ k
 
@@ -71,7 +71,7 @@ pub record IsAround (p : Problem) (nodes : List Node) (unmatched : List ℕ) (v 
   pub others : (k : ℕ) → is_in items k ≡ true → IsBest a.best k ⊎ (a.room ≤ residue_of nodes (edge_at p.edges k))
 
 module _ (p : Problem) (nodes : List Node) (unmatched : List ℕ) (v : ℕ) where
-  module _ (r : Reach) (is : IsReach p nodes v r) where
+  module _ (r : EdgeAtSingle) (is : IsReach p nodes v r) where
     -- a target at the end of this edge is one that it reaches
     same_target : (k f : ℕ) → r.edge ≡ k → Leads (edge_at p.edges k) v f
         → is_target p nodes unmatched f (cover_of nodes f) ≡ true → is_target p nodes unmatched r.far r.other ≡ true
@@ -96,7 +96,7 @@ module _ (p : Problem) (nodes : List Node) (unmatched : List ℕ) (v : ℕ) wher
       others = λ k within. by_others k (cases k within);
     }
       where
-        less : (best : Option Reach) (n : ℕ) → is_nearer r best ≡ true → IsAtMost best n → r.length ≤ n
+        less : (best : Option EdgeAtSingle) (n : ℕ) → is_nearer r best ≡ true → IsAtMost best n → r.length ≤ n
         less None n near most = absurd most
         less (Some b) n near most = omega (arith, ltb-true r.length b.length near, most)
 
@@ -106,7 +106,7 @@ module _ (p : Problem) (nodes : List Node) (unmatched : List ℕ) (v : ℕ) wher
         by_least k f leads good (inr old) =
             less a.best (residue_of nodes (edge_at p.edges k)) nearer (was.least k f old leads good)
 
-        room_of : (best : Option Reach) (k : ℕ) → IfSome best (IsReach p nodes v)
+        room_of : (best : Option EdgeAtSingle) (k : ℕ) → IfSome best (IsReach p nodes v)
             → IsBest best k ⊎ (a.room ≤ residue_of nodes (edge_at p.edges k))
             → room_with best a.room ≤ residue_of nodes (edge_at p.edges k)
         room_of None k reach (inl none) = absurd none
@@ -132,7 +132,7 @@ module _ (p : Problem) (nodes : List Node) (unmatched : List ℕ) (v : ℕ) wher
       others = λ k within. by_others k (cases k within);
     }
       where
-        farther : (best : Option Reach) (b : Bool) (n : ℕ) → b ≡ true → r.length ≡ n → (is_nearer r best && b) ≡ false
+        farther : (best : Option EdgeAtSingle) (b : Bool) (n : ℕ) → b ≡ true → r.length ≡ n → (is_nearer r best && b) ≡ false
             → IsAtMost best n
         farther None b n good same not_both = absurd (false≢true (sym not_both ∙ good))
         farther (Some best) true n good same not_both = by (nat_lt r.length best.length) refl not_both
@@ -188,7 +188,7 @@ module _ (p : Problem) (nodes : List Node) (unmatched : List ℕ) (v : ℕ) wher
       × IfSome a.best (λ r. HasRoom p.edges nodes v r.far r.length a.room)
   around_all i items a limits nest are all was = by a.best was.reach was.target was.least was.others
     where
-      by : (best : Option Reach) → IfSome best (IsReach p nodes v)
+      by : (best : Option EdgeAtSingle) → IfSome best (IsReach p nodes v)
           → IfSome best (λ r. is_target p nodes unmatched r.far r.other ≡ true)
           → ((k f : ℕ) → is_in (take i items) k ≡ true → Leads (edge_at p.edges k) v f
           → is_target p nodes unmatched f (cover_of nodes f) ≡ true → IsAtMost best (residue_of nodes (edge_at p.edges k)))

@@ -11,7 +11,7 @@ use Rattle.fb_graph.specs.Problem.{Problem, edge_at, touches}
 use Rattle.fb_graph.specs.declared.parts.Edge.{Edge}
 use Rattle.fb_graph.proofs.Among.{cover_among, top_among}
 use Rattle.fb_graph.proofs.Sets.{is_in-cases}
-use Rattle.fb_obstacles.specs.declared.singles.Reach.{Reach}
+use Rattle.fb_obstacles.specs.declared.singles.EdgeAtSingle.{EdgeAtSingle}
 use Rattle.fb_obstacles.specs.InternalSingles.{HasRoom, IsReach, IsShare, is_single}
 use Rattle.fb_obstacles.specs.Obstacles.{residue_of}
 use Rattle.fb_obstacles.proofs.SingleEdges.{single_length}
@@ -83,7 +83,7 @@ both_rooms edges nodes v far between room other_room has other k less at =
     by false to_v le = le
 
 -- what is found makes a way to match the root
-module _ (p : Problem) (nodes : List Node) (unmatched : List ℕ) (root v : ℕ) (r : Reach) (top : top_at nodes root ≡ v ∷ [])
+module _ (p : Problem) (nodes : List Node) (unmatched : List ℕ) (root v : ℕ) (r : EdgeAtSingle) (top : top_at nodes root ≡ v ∷ [])
     (is : IsReach p nodes v r) (target : IsTarget p nodes unmatched r.far r.other) (room : ℕ)
     (has : HasRoom p.edges nodes v r.far r.length room) where
   pub pair_is_near : (near : Near) (other share other_room : ℕ) → r.other ≡ Some other

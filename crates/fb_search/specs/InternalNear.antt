@@ -9,7 +9,7 @@ use Rattle.fb_graph.specs.Steps.{Roles}
 use Rattle.fb_laws.specs.Trees.{roles_of}
 use Rattle.fb_obstacles.specs.Obstacles.{residue_of}
 use Rattle.fb_obstacles.specs.declared.singles.Around.{Around}
-use Rattle.fb_obstacles.specs.declared.singles.Reach.{Reach}
+use Rattle.fb_obstacles.specs.declared.singles.EdgeAtSingle.{EdgeAtSingle}
 use Rattle.fb_obstacles.specs.InternalSingles.{HasRoom, is_nearer, is_single, with_best}
 use Rattle.fb_search.specs.declared.near.Near.{Near}
 use Rattle.fb_search.specs.declared.near.Near.TheVariants.{Boundary, Pair}
@@ -36,7 +36,7 @@ is_target p nodes unmatched v None = not (p.is_real v)
 is_target p nodes unmatched v (Some name) = if is_in unmatched name then is_single nodes name else false
 
 -- what was found, with a further edge
-abbrev pub with_reach : Problem → List Node → List ℕ → Around → Reach → Around
+abbrev pub with_reach : Problem → List Node → List ℕ → Around → EdgeAtSingle → Around
 with_reach p nodes unmatched around reach =
     if is_nearer reach around.best && is_target p nodes unmatched reach.far reach.other then with_best around reach
     else record { best = around.best; room = min around.room reach.length }

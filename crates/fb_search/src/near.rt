@@ -9,7 +9,8 @@ ghost use Rattle.fb_search.specs.InternalNear.{IsNear, IsTarget, is_target, with
 use fb_graph::Scope;
 use fb_half::{Matching, Standing};
 use fb_obstacles::{
-    Around, Reach, is_nearer, is_single, reach_over, room_beside, share, single_vertex, with_best,
+    Around, EdgeAtSingle, is_nearer, is_single, reach_over, room_beside, share, single_vertex,
+    with_best,
 };
 use fb_regions::{NodeId, Regions};
 
@@ -36,7 +37,7 @@ pub(crate) struct NearPair {
 }
 
 /// Whether the edge leads to the boundary or to another unmatched single defect.
-fn is_target<S: Scope>(regions: &Regions<S>, matching: &Matching, reach: Reach) -> bool
+fn is_target<S: Scope>(regions: &Regions<S>, matching: &Matching, reach: EdgeAtSingle) -> bool
     requires below { reach.far < (S.problem regions.now.scope).vertices }
     requires covered { reach.other ≡ cover_of regions.now.nodes reach.far }
     ensures { result
@@ -56,7 +57,7 @@ fn with_reach<S: Scope>(
     regions: &Regions<S>,
     matching: &Matching,
     around: Around,
-    reach: Reach,
+    reach: EdgeAtSingle,
 ) -> Around
     requires below { reach.far < (S.problem regions.now.scope).vertices }
     requires covered { reach.other ≡ cover_of regions.now.nodes reach.far }

@@ -10,8 +10,8 @@ use mathlib.Core.Option.{some, none, some-injective, some-ne-none}
 use lib.ListN.{get_elem?}
 use Rattle.atomic_table.specs.Table.{State, Splits, Joins, opening, Final, Seen}
 use Rattle.atomic_table.proofs.Lists.{at_set, at_snoc, set_else}
-use Rattle.fb_book.specs.declared.entries.Kind.{Kind}
-use Rattle.fb_book.specs.declared.entries.Kind.TheVariants.{Took, Gave, Left}
+use Rattle.fb_book.specs.declared.entries.EntryKind.{EntryKind}
+use Rattle.fb_book.specs.declared.entries.EntryKind.TheVariants.{Took, Gave, Left}
 use Rattle.fb_book.specs.declared.entries.Entry.{Entry}
 use Rattle.fb_book.specs.Machine.{is_child, place, trace, is_loss}
 use Rattle.fb_slots.specs.declared.views.Hand.{Hand}
@@ -120,7 +120,7 @@ module _ {P : Type 0} (IsPiece : ℕ → P → Type 0) (b : Layout) (is : IsLayo
       let two : (f : Hand → ℕ) → total f (mid ++ n ∷ []) + f v ≡ total f s.views + f l + f n =
       λ f. let one = total_set f s.views id v l at in let next = total_snoc f mid n in
       omega (arith, one, next) in
-      let same : (f : Kind → ℕ) (j : ℕ) → in_hands f b.nodes (mid ++ n ∷ []) j ≡ in_hands f b.nodes
+      let same : (f : EntryKind → ℕ) (j : ℕ) → in_hands f b.nodes (mid ++ n ∷ []) j ≡ in_hands f b.nodes
       s.views j =
       λ f j. let t = two (in_hand f b.nodes j) in omega (arith, t) in
       let ends = two (λ u. u.ends) in
@@ -176,11 +176,11 @@ module _ {P : Type 0} (IsPiece : ℕ → P → Type 0) (b : Layout) (is : IsLayo
       let two : (f : Hand → ℕ) → total f end + f w + f v ≡ total f s.views + f m + f e =
       λ f. let one = total_set f s.views id v m at in let next =
       total_set f mid other w e other_at in omega (arith, one, next) in
-      let sum : (f : Kind → ℕ) (j : ℕ) → in_hand f b.nodes j m ≡ in_hand f b.nodes j w + in_hand f
+      let sum : (f : EntryKind → ℕ) (j : ℕ) → in_hand f b.nodes j m ≡ in_hand f b.nodes j w + in_hand f
       b.nodes j v =
       λ f j. ap (weigh f) (trace-append b.nodes j w.entries v.entries)
       ∙ weigh-append f (trace b.nodes j w.entries) (trace b.nodes j v.entries) in
-      let same : (f : Kind → ℕ) (j : ℕ) → in_hands f b.nodes end j ≡ in_hands f b.nodes s.views j =
+      let same : (f : EntryKind → ℕ) (j : ℕ) → in_hands f b.nodes end j ≡ in_hands f b.nodes s.views j =
       λ f j. let t = two (in_hand f b.nodes j) in let q = sum f j in omega (arith, t, q) in
       let ends = two (λ u. u.ends) in
       let seats = two (λ u. u.seats) in
@@ -247,7 +247,7 @@ left_most : (n k : ℕ) (es : List Entry) → weigh as_left (trace n k es) ≤ l
 left_most n k [] = omega arith
 left_most n k (e ∷ es) = step (place n e == k) refl e.kind refl (left_most n k es)
   where
-    step : (t : Bool) → (place n e == k) ≡ t → (kind : Kind) → e.kind ≡ kind
+    step : (t : Bool) → (place n e == k) ≡ t → (kind : EntryKind) → e.kind ≡ kind
         → weigh as_left (trace n k es) ≤ losses es → weigh as_left (trace n k (e ∷ es)) ≤ losses
         (e ∷ es)
     step true h kind f rest =
@@ -258,7 +258,7 @@ left_most n k (e ∷ es) = step (place n e == k) refl e.kind refl (left_most n k
         let d = one e.kind in
         omega (arith, c, d, rest)
       where
-        one : (kind : Kind) → as_left kind ≤ cond (Rattle.fb_book.specs.Machine.is_loss_kind kind) 1
+        one : (kind : EntryKind) → as_left kind ≤ cond (Rattle.fb_book.specs.Machine.is_loss_kind kind) 1
             0
         one Took = omega arith
         one Gave = omega arith
@@ -271,7 +271,7 @@ left_most n k (e ∷ es) = step (place n e == k) refl e.kind refl (left_most n k
         omega (arith, c, rest)
 
 -- what was done with an item that was given
-done_given : {xs : List (Kind × ℕ)} → IsDone xs → weigh as_given xs ≡ 1
+done_given : {xs : List (EntryKind × ℕ)} → IsDone xs → weigh as_given xs ≡ 1
     → (w : ℕ) × (xs ≡ (Took, w) ∷ (Gave, w) ∷ [])
 done_given nothing e = absurd (omega (arith, e))
 done_given (holds w) e = absurd (omega (arith, e))
@@ -296,7 +296,7 @@ knows_all b v same every ended positive closed =
 module _ {P : Type 0} (IsPiece : ℕ → P → Type 0) (b : Layout) (is : IsLayout b)
     (s : State (Option P) Hand) (r : IsRuled IsPiece b s)
     (id : ℕ) (v : Hand) (at : get_elem? s.views id ≡ some v) (all : KnowsAll b v) where
-  in_all : (f : Kind → ℕ) (k : ℕ) → in_hands f b.nodes s.views k ≡ in_hand f b.nodes k v
+  in_all : (f : EntryKind → ℕ) (k : ℕ) → in_hands f b.nodes s.views k ≡ in_hand f b.nodes k v
   in_all f k = total_alone (in_hand f b.nodes k) (λ u. u.seats) s.views id v at (r.hands.seats
       ∙ sym all.seats)
       (λ j u h z. ap (λ es. weigh f (trace b.nodes k es)) ((r.hands.each j u h).spent z))

@@ -6,7 +6,7 @@ use Rattle.std.proofs.lemmas.List.{append-nil, append_assoc, length-append, get_
 use Rattle.std.specs.List.{All}
 use Rattle.fb_graph.proofs.Nodes.{All-below, All-top}
 use Rattle.fb_slots.specs.declared.views.Hand.{Hand}
-use Rattle.fb_book.specs.declared.entries.Kind.{Kind}
+use Rattle.fb_book.specs.declared.entries.EntryKind.{EntryKind}
 use Rattle.fb_slots.specs.Seats.{SeatValue, ends_in, entries_in}
 use Rattle.fb_slots.specs.Slots.{Layout, IsClosed, with_other, in_hand, weigh, as_taken, as_given, as_left}
 use Rattle.fb_slots.specs.Ends.{IsEmptiedTo, AreAtRoots}
@@ -77,7 +77,7 @@ module _ (own free : SeatValue → Type 0) (b : Layout) (all : List SeatValue) w
         seats = let l = ap length e ∙ length-append xs (x ∷ []) in let h = g.seats in
             omega (arith, l, h, one);
         closed = λ j.
-            let sum : (f : Kind → ℕ) → in_hand f b.nodes j (with_other v u) ≡ in_hand f b.nodes j
+            let sum : (f : EntryKind → ℕ) → in_hand f b.nodes j (with_other v u) ≡ in_hand f b.nodes j
             u + in_hand f b.nodes j v =
             λ f. ap (weigh f) (trace-append b.nodes j u.entries v.entries)
             ∙ weigh-append f (trace b.nodes j u.entries) (trace b.nodes j v.entries) in

@@ -8,8 +8,8 @@ use Rattle.std.specs.Prelude.{slice_index, slice_set}
 use mathlib.Core.Option.{some, some-injective, some-ne-none}
 use lib.ListN.{get_elem?}
 use Rattle.atomic_table.proofs.Lists.{at_set}
-use Rattle.fb_book.specs.declared.entries.Kind.{Kind}
-use Rattle.fb_book.specs.declared.entries.Kind.TheVariants.{Took, Gave, Left}
+use Rattle.fb_book.specs.declared.entries.EntryKind.{EntryKind}
+use Rattle.fb_book.specs.declared.entries.EntryKind.TheVariants.{Took, Gave, Left}
 use Rattle.fb_book.specs.declared.entries.Entry.{Entry}
 use Rattle.fb_book.specs.Machine.{place, trace}
 use Rattle.fb_slots.specs.declared.views.Hand.{Hand}
@@ -63,7 +63,7 @@ total_alone f g (x ∷ vs) (suc i) v at all each =
     let rest = total_alone f g vs i v at (omega (arith, all, none)) (λ j u h. each (suc j) u h) in
     omega (arith, here, rest)
 
-pub weigh-append : (f : Kind → ℕ) (xs ys : List (Kind × ℕ))
+pub weigh-append : (f : EntryKind → ℕ) (xs ys : List (EntryKind × ℕ))
     → weigh f (xs ++ ys) ≡ weigh f xs + weigh f ys
 weigh-append f [] ys = omega arith
 weigh-append f (x ∷ xs) ys = let r = weigh-append f xs ys in omega (arith, r)
@@ -80,28 +80,28 @@ losses-append [] fs = omega arith
 losses-append (e ∷ es) fs = let r = losses-append es fs in omega (arith, r)
 
 -- the entry at place k stands there, and nowhere else
-pub place_entry : (kind : Kind) (w n k : ℕ) → place n (entry_at kind w n k) ≡ k
+pub place_entry : (kind : EntryKind) (w n k : ℕ) → place n (entry_at kind w n k) ≡ k
 place_entry kind w n k = div-add-mod' k n
 
-pub trace_entry : (kind : Kind) (w n k : ℕ) → trace n k (entry_at kind w n k ∷ []) ≡ (kind, w) ∷ []
+pub trace_entry : (kind : EntryKind) (w n k : ℕ) → trace n k (entry_at kind w n k ∷ []) ≡ (kind, w) ∷ []
 trace_entry kind w n k =
     ap (λ t. map (λ (x : Entry). (x.kind, x.worker)) (cond t (entry_at kind w n k ∷ []) []))
     (eq-eqb (place n (entry_at kind w n k)) k (place_entry kind w n k))
 
-pub trace_else : (kind : Kind) (w n k j : ℕ) → j ≢ k → trace n j (entry_at kind w n k ∷ []) ≡ []
+pub trace_else : (kind : EntryKind) (w n k j : ℕ) → j ≢ k → trace n j (entry_at kind w n k ∷ []) ≡ []
 trace_else kind w n k j ne =
     ap (λ t. map (λ (x : Entry). (x.kind, x.worker)) (cond t (entry_at kind w n k ∷ []) []))
     (ne_eqb (place n (entry_at kind w n k)) j (λ e. ne (sym e ∙ place_entry kind w n k)))
 
 -- the traces of a view with one more entry
-pub trace_more : (b : Layout) (kind : Kind) (k : ℕ) (v : Hand)
+pub trace_more : (b : Layout) (kind : EntryKind) (k : ℕ) (v : Hand)
     → trace b.nodes k (with_entry b kind k v).entries ≡ trace b.nodes k
     v.entries ++ (kind, v.worker) ∷ []
 trace_more b kind k v =
     trace-append b.nodes k v.entries (entry_at kind v.worker b.nodes k ∷ [])
     ∙ ap (λ t. trace b.nodes k v.entries ++ t) (trace_entry kind v.worker b.nodes k)
 
-pub trace_same : (b : Layout) (kind : Kind) (k j : ℕ) (v : Hand) → j ≢ k
+pub trace_same : (b : Layout) (kind : EntryKind) (k j : ℕ) (v : Hand) → j ≢ k
     → trace b.nodes j (with_entry b kind k v).entries ≡ trace b.nodes j v.entries
 trace_same b kind k j v ne =
     trace-append b.nodes j v.entries (entry_at kind v.worker b.nodes k ∷ [])
@@ -109,18 +109,18 @@ trace_same b kind k j v ne =
     ∙ append-nil (trace b.nodes j v.entries))
 
 -- how often item j stands in a view with one more entry
-pub in_more : (b : Layout) (f : Kind → ℕ) (kind : Kind) (k : ℕ) (v : Hand)
+pub in_more : (b : Layout) (f : EntryKind → ℕ) (kind : EntryKind) (k : ℕ) (v : Hand)
     → in_hand f b.nodes k (with_entry b kind k v) ≡ in_hand f b.nodes k v + f kind
 in_more b f kind k v =
     let a = ap (weigh f) (trace_more b kind k v) ∙ weigh-append f (trace b.nodes k v.entries)
     ((kind, v.worker) ∷ []) in omega (arith, a)
 
-pub in_same : (b : Layout) (f : Kind → ℕ) (kind : Kind) (k j : ℕ) (v : Hand) → j ≢ k
+pub in_same : (b : Layout) (f : EntryKind → ℕ) (kind : EntryKind) (k j : ℕ) (v : Hand) → j ≢ k
     → in_hand f b.nodes j (with_entry b kind k v) ≡ in_hand f b.nodes j v
 in_same b f kind k j v ne = ap (weigh f) (trace_same b kind k j v ne)
 
 -- and where the kind weighs nothing
-pub in_none : (b : Layout) (f : Kind → ℕ) (kind : Kind) (k j : ℕ) (v : Hand) → f kind ≡ 0
+pub in_none : (b : Layout) (f : EntryKind → ℕ) (kind : EntryKind) (k j : ℕ) (v : Hand) → f kind ≡ 0
     → in_hand f b.nodes j (with_entry b kind k v) ≡ in_hand f b.nodes j v
 in_none b f kind k j v z = elim (cases_eq j k) [
   | inl e ↦
@@ -132,7 +132,7 @@ in_none b f kind k j v z = elim (cases_eq j k) [
 ]
 
 module _ (b : Layout) (vs : List Hand) (id : ℕ) (v w : Hand) (at : get_elem? vs id ≡ some v)
-    (f : Kind → ℕ) where
+    (f : EntryKind → ℕ) where
   -- the sums over all views follow those of the view that changes
   pub hands_more : (k : ℕ) → ((j : ℕ) → j ≢ k → in_hand f b.nodes j w ≡ in_hand f b.nodes j v)
       → in_hand f b.nodes k w ≡ in_hand f b.nodes k v + 1
@@ -149,13 +149,13 @@ module _ (b : Layout) (vs : List Hand) (id : ℕ) (v w : Hand) (at : get_elem? v
       omega (arith, t, s)
 
 -- what was done with an item that was not taken, and of others how the counts go
-pub done_none : {xs : List (Kind × ℕ)} → IsDone xs → weigh as_taken xs ≡ 0 → xs ≡ []
+pub done_none : {xs : List (EntryKind × ℕ)} → IsDone xs → weigh as_taken xs ≡ 0 → xs ≡ []
 done_none nothing z = refl
 done_none (holds w) z = absurd (omega (arith, z))
 done_none (gave w) z = absurd (omega (arith, z))
 done_none (left w) z = absurd (omega (arith, z))
 
-pub done_most : {xs : List (Kind × ℕ)} → IsDone xs → weigh as_given xs + weigh as_left xs ≤ weigh
+pub done_most : {xs : List (EntryKind × ℕ)} → IsDone xs → weigh as_given xs + weigh as_left xs ≤ weigh
     as_taken xs
 done_most nothing = omega arith
 done_most (holds w) = omega arith
@@ -164,7 +164,7 @@ done_most (left w) = omega arith
 
 module _ (b : Layout) (is : IsLayout b) where
   -- a view after an entry
-  hand_with : (kind : Kind) (k : ℕ) (v : Hand) → IsHand b v → 0 < v.seats → k < b.count
+  hand_with : (kind : EntryKind) (k : ℕ) (v : Hand) → IsHand b v → 0 < v.seats → k < b.count
       → IsDone (trace b.nodes k v.entries ++ (kind, v.worker) ∷ [])
       → IsHand b (with_entry b kind k v)
   hand_with kind k v h seated less done = record {

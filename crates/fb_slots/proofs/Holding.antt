@@ -6,8 +6,8 @@ use Rattle.std.specs.List.{All}
 use Rattle.fb_book.specs.declared.entries.Entry.{Entry}
 use Rattle.fb_book.specs.InternalBoard.{entry_at}
 use Rattle.std.proofs.lemmas.Option.{same_Some}
-use Rattle.fb_book.specs.declared.entries.Kind.{Kind}
-use Rattle.fb_book.specs.declared.entries.Kind.TheVariants.{Took, Gave, Left}
+use Rattle.fb_book.specs.declared.entries.EntryKind.{EntryKind}
+use Rattle.fb_book.specs.declared.entries.EntryKind.TheVariants.{Took, Gave, Left}
 use Rattle.fb_book.specs.Machine.{trace}
 use Rattle.atomic_table.specs.Table.{Me}
 use Rattle.fb_slots.specs.declared.views.Hand.{Hand}
@@ -16,7 +16,7 @@ use Rattle.fb_slots.proofs.Hands.{trace_more, trace_same, in_more, in_same}
 
 module _ (b : Layout) where
   -- other items stay as they were
-  closed_else : (kind : Kind) (k j : ℕ) (v : Hand) → j ≢ k → IsClosed b v j
+  closed_else : (kind : EntryKind) (k j : ℕ) (v : Hand) → j ≢ k → IsClosed b v j
       → IsClosed b (with_entry b kind k v) j
   closed_else kind k j v ne h =
       let t = in_same b as_taken kind k j v ne in let g = in_same b as_given kind k j v ne in
@@ -37,7 +37,7 @@ module _ (b : Layout) where
   took_closed k v h j ne = closed_else Took k j v ne (h j)
 
   -- a held item is let go
-  let_closed : (kind : Kind) → as_taken kind ≡ 0 → as_given kind + as_left kind ≡ 1
+  let_closed : (kind : EntryKind) → as_taken kind ≡ 0 → as_given kind + as_left kind ≡ 1
       → (k : ℕ) (v : Hand) → IsHeld b v k → ((j : ℕ) → j ≢ k → IsClosed b v j)
       → (j : ℕ) → IsClosed b (with_entry b kind k v) j
   let_closed kind z one k v held h j = elim (cases_eq j k) [
@@ -64,7 +64,7 @@ module _ (b : Layout) where
   abbrev AreBy : ℕ → List Entry → Type 0
   AreBy w es = All (λ e. e.worker ≡ w) es
 
-  own_more : (w : ℕ) (kind : Kind) (k : ℕ) (v : Hand) → v.worker ≡ w → AreBy w v.entries
+  own_more : (w : ℕ) (kind : EntryKind) (k : ℕ) (v : Hand) → v.worker ≡ w → AreBy w v.entries
       → AreBy w (with_entry b kind k v).entries
   own_more w kind k v is own =
       All-append (λ e. e.worker ≡ w) v.entries (entry_at kind v.worker b.nodes k ∷ []) own

@@ -5,8 +5,8 @@ use Rattle.std.proofs.lemmas.Nat.{mod_below}
 use Rattle.std.proofs.lemmas.List.{append-nil, append_assoc, length-replicate, get_or-replicate}
 use Rattle.std.specs.List.{list_any, list_all}
 use Rattle.std.specs.Prelude.{nat_lt}
-use Rattle.fb_book.specs.declared.entries.Kind.{Kind}
-use Rattle.fb_book.specs.declared.entries.Kind.TheVariants.{Took, Gave, Left}
+use Rattle.fb_book.specs.declared.entries.EntryKind.{EntryKind}
+use Rattle.fb_book.specs.declared.entries.EntryKind.TheVariants.{Took, Gave, Left}
 use Rattle.fb_book.specs.declared.entries.Entry.{Entry}
 use Rattle.fb_book.specs.declared.entries.Status.{Status}
 use Rattle.fb_book.specs.declared.entries.Status.TheVariants.{Idle, Held, Given, Used, Left as Lost}
@@ -22,14 +22,14 @@ use Rattle.fb_slots.proofs.Items.{child_is, left_is, right_is}
 use Rattle.fb_slots.proofs.Hands.{place_entry}
 
 module _ (b : Layout) (is : IsLayout b) (es : List Entry) (o : IsOrdered b es) where
-  abbrev tr : ℕ → List (Kind × ℕ)
+  abbrev tr : ℕ → List (EntryKind × ℕ)
   tr k = trace b.nodes k es
 
   -- the statuses once the items below m were listed
   record IsAt (m : ℕ) (st : List Status) : Type 0 where
     size : length st ≡ b.count
     idle : (j : ℕ) → m ≤ j → j < b.count → status_at st j ≡ Idle
-    held : (j w : ℕ) (rest : List (Kind × ℕ)) → j < m → tr j ≡ (Took, w) ∷ rest
+    held : (j w : ℕ) (rest : List (EntryKind × ℕ)) → j < m → tr j ≡ (Took, w) ∷ rest
         → weigh as_given rest ≡ 0 → status_at st j ≡ Held w
     given : (j : ℕ) → j < m → weigh as_given (tr j) ≡ 1
         → ((p : ℕ) → p < m → is_child (b.kids p) j ≡ true → weigh as_taken (tr p) ≡ 0)
@@ -67,7 +67,7 @@ module _ (b : Layout) (is : IsLayout b) (es : List Entry) (o : IsOrdered b es) w
 
   next : (m : ℕ) (s : Status) (st st' : List Status) → m < b.count → 0 < weigh as_taken (tr m)
       → is_left s ≡ false
-      → ((w : ℕ) (rest : List (Kind × ℕ)) → tr m ≡ (Took, w) ∷ rest → weigh as_given rest ≡ 0
+      → ((w : ℕ) (rest : List (EntryKind × ℕ)) → tr m ≡ (Took, w) ∷ rest → weigh as_given rest ≡ 0
       → s ≡ Held w)
       → (weigh as_given (tr m) ≡ 1 → s ≡ Given) → IsAt m st → IsNext m s st st' → IsAt (suc m) st'
   next m s st st' less took unlost s_held s_given a n = record {
@@ -98,7 +98,7 @@ module _ (b : Layout) (is : IsLayout b) (es : List Entry) (o : IsOrdered b es) w
                 | inr f ↦ ap (λ x. weigh as_given (tr x)) f ∙ both.1
               ]
 
-      held : (j w : ℕ) (rest : List (Kind × ℕ)) → j < suc m → tr j ≡ (Took, w) ∷ rest
+      held : (j w : ℕ) (rest : List (EntryKind × ℕ)) → j < suc m → tr j ≡ (Took, w) ∷ rest
           → weigh as_given rest ≡ 0 → (j ≡ m) ⊎ (j ≢ m)
           → (r : Bool) → is_child (b.kids m) j ≡ r → status_at st' j ≡ Held w
       held j w rest below t g (inl e) r h = ap (status_at st') e
@@ -228,19 +228,19 @@ module _ (b : Layout) (is : IsLayout b) (es : List Entry) (o : IsOrdered b es) w
         statuses
     at : IsAt m statuses
 
-  one_more : (m : ℕ) (xs : List (Kind × ℕ)) → tr m ≡ xs → IsDone xs → m < b.count → IsListed m
+  one_more : (m : ℕ) (xs : List (EntryKind × ℕ)) → tr m ≡ xs → IsDone xs → m < b.count → IsListed m
       → IsListed (suc m)
   one_more m xs e d less l = go xs e d
     where
       n : ℕ
       n = b.nodes
 
-      Goal : List (Kind × ℕ) → Type 0
+      Goal : List (EntryKind × ℕ) → Type 0
       Goal ys = (st : List Status)
           × (replay b.kids n (all_idle b.count) (listed_by gains n es m ++ entries_for n m
           (gains ys)) ≡ Some st) × IsAt (suc m) st
 
-      pack : (ys : List (Kind × ℕ)) → tr m ≡ ys → Goal ys → IsListed (suc m)
+      pack : (ys : List (EntryKind × ℕ)) → tr m ≡ ys → Goal ys → IsListed (suc m)
       pack ys f g = let t = subst Goal (sym f) g in record {
         statuses = t.0;
         replayed = t.1;
@@ -261,7 +261,7 @@ module _ (b : Layout) (is : IsLayout b) (es : List Entry) (o : IsOrdered b es) w
           ∙ ap (λ x. Some (after b.kids l.statuses Took w x)) (place_entry Took w n m)
 
       -- held: nothing more is listed
-      holding : (w : ℕ) (rest : List (Kind × ℕ)) → tr m ≡ (Took, w) ∷ rest → weigh as_given rest ≡ 0
+      holding : (w : ℕ) (rest : List (EntryKind × ℕ)) → tr m ≡ (Took, w) ∷ rest → weigh as_given rest ≡ 0
           → IsAt (suc m) (after b.kids l.statuses Took w m)
       holding w rest t g =
           let took : 0 < weigh as_taken (tr m) = let c = ap (weigh as_taken) t in
@@ -269,11 +269,11 @@ module _ (b : Layout) (is : IsLayout b) (es : List Entry) (o : IsOrdered b es) w
           let none_given = ap (weigh as_given) t in
           next m (Held w) l.statuses (after b.kids l.statuses Took w m) less took refl
           (λ v rest' t' g'. let f : (Took, w) ∷ rest ≡ (Took, v) ∷ rest' = sym t ∙ t' in
-          let q : ◌≡◌ {A = Kind × ℕ} (Took, w) (Took, v) = cc in ap (λ (x : Kind × ℕ). Held x.1)
+          let q : ◌≡◌ {A = EntryKind × ℕ} (Took, w) (Took, v) = cc in ap (λ (x : EntryKind × ℕ). Held x.1)
           q)
           (λ one. absurd (omega (arith, one, none_given, g))) l.at (took_next m w l.statuses inside)
 
-      go : (xs : List (Kind × ℕ)) → tr m ≡ xs → IsDone xs → IsListed (suc m)
+      go : (xs : List (EntryKind × ℕ)) → tr m ≡ xs → IsDone xs → IsListed (suc m)
       go xs f nothing = pack [] f (
         l.statuses,
         ap (replay b.kids n (all_idle b.count))
@@ -387,7 +387,7 @@ module _ (b : Layout) (is : IsLayout b) (es : List Entry) (o : IsOrdered b es) w
       h : List Entry
       h = listed_by gains n es b.count ++ listed_by leavings n es m
 
-      Goal : List (Kind × ℕ) → Type 0
+      Goal : List (EntryKind × ℕ) → Type 0
       Goal ys = (st : List Status)
           × (replay b.kids n (all_idle b.count)
           (listed_by gains n es b.count ++ (listed_by leavings n es m ++ entries_for n m
@@ -395,7 +395,7 @@ module _ (b : Layout) (is : IsLayout b) (es : List Entry) (o : IsOrdered b es) w
           × (length st ≡ b.count) × ((j w : ℕ) → suc m ≤ j → j < b.count
           → tr j ≡ (Took, w) ∷ (Left, w) ∷ [] → status_at st j ≡ Held w)
 
-      pack : (ys : List (Kind × ℕ)) → tr m ≡ ys → Goal ys → IsLosing (suc m)
+      pack : (ys : List (EntryKind × ℕ)) → tr m ≡ ys → Goal ys → IsLosing (suc m)
       pack ys f g = let t = subst Goal (sym f) g in record {
         statuses = t.0;
         replayed = t.1;
@@ -413,7 +413,7 @@ module _ (b : Layout) (is : IsLayout b) (es : List Entry) (o : IsOrdered b es) w
         (λ j w more inside t. l.held j w (omega (arith, more)) inside t),
       )
 
-      go : (xs : List (Kind × ℕ)) → tr m ≡ xs → IsDone xs → IsLosing (suc m)
+      go : (xs : List (EntryKind × ℕ)) → tr m ≡ xs → IsDone xs → IsLosing (suc m)
       go xs f nothing = pack [] f still
       go xs f (holds w) = pack ((Took, w) ∷ []) f still
       go xs f (gave w) = pack ((Took, w) ∷ (Gave, w) ∷ []) f still

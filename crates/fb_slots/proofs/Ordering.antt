@@ -8,8 +8,8 @@ use Rattle.std.proofs.lemmas.List.Elements.{All-head, All-tail}
 use Rattle.std.proofs.lemmas.List.FromFn.{length-range_with_len}
 use Rattle.fb_graph.proofs.BuildSteps.{range_push}
 use Rattle.fb_graph.proofs.Sets.{range_rises}
-use Rattle.fb_book.specs.declared.entries.Kind.{Kind}
-use Rattle.fb_book.specs.declared.entries.Kind.TheVariants.{Took, Gave}
+use Rattle.fb_book.specs.declared.entries.EntryKind.{EntryKind}
+use Rattle.fb_book.specs.declared.entries.EntryKind.TheVariants.{Took, Gave}
 use Rattle.fb_book.specs.declared.entries.Entry.{Entry}
 use Rattle.fb_book.specs.Machine.{place, trace}
 use Rattle.fb_book.specs.InternalBoard.{entry_at}
@@ -29,7 +29,7 @@ range_two m =
     ∙ (append_assoc (range_with_len 0 (2 * m)) ((0 + 2 * m) ∷ []) ((0 + suc (2 * m)) ∷ [])
     ∙ (λ i. range_with_len 0 (2 * m) ++ none i ∷ one i ∷ []))))
 
-rank_entry : (kind : Kind) (w n k : ℕ) → rank n (entry_at kind w n k) ≡ 2 * k + rank_of kind
+rank_entry : (kind : EntryKind) (w n k : ℕ) → rank n (entry_at kind w n k) ≡ 2 * k + rank_of kind
 rank_entry kind w n k = ap (λ (p : ℕ). 2 * p + rank_of kind) (place_entry kind w n k)
 
 -- how many entries the items below k have

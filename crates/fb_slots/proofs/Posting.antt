@@ -7,7 +7,7 @@ use mathlib.Core.Option.{some, none}
 use lib.ListN.{get_elem?}
 use Rattle.atomic_table.specs.Table.{State, Me, Act, takes, chain, Allows, Valid, carried_after, homes_after, stepped, step}
 use Rattle.atomic_table.proofs.Lists.{set_else}
-use Rattle.fb_book.specs.declared.entries.Kind.TheVariants.{Took, Gave, Left}
+use Rattle.fb_book.specs.declared.entries.EntryKind.TheVariants.{Took, Gave, Left}
 use Rattle.fb_book.specs.Machine.{is_child}
 use Rattle.fb_slots.specs.declared.views.Hand.{Hand}
 use Rattle.fb_book.specs.InternalBoard.{entry_at}

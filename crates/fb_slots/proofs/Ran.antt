@@ -8,7 +8,7 @@ use Rattle.fb_book.specs.Board.{IsRun}
 use Rattle.fb_book.specs.Books.{course_of}
 use Rattle.std.proofs.lemmas.List.Elements.{All-append, All-nil, All-cons, All-head, All-tail, All-map, All-filter, filter_passes}
 use Rattle.std.specs.List.{All}
-use Rattle.fb_book.specs.declared.entries.Kind.{Kind}
+use Rattle.fb_book.specs.declared.entries.EntryKind.{EntryKind}
 use Rattle.fb_book.specs.declared.entries.Entry.{Entry}
 use Rattle.fb_book.specs.Machine.{is_child, place, trace, is_loss_kind}
 use Rattle.fb_book.specs.InternalBoard.{entry_at}
@@ -35,7 +35,7 @@ parent_of b k c i less = go i.counts
 -- What is listed says of an item, by its place, what some entry of its said.
 module _ (P Q : Entry → Type 0) (n : ℕ)
     (each : (e : Entry) (k : ℕ) → place n e ≡ k → P e → Q (entry_at e.kind e.worker n k)) where
-  abbrev IsOf : ℕ → Kind × ℕ → Type 0
+  abbrev IsOf : ℕ → EntryKind × ℕ → Type 0
   IsOf k x = Q (entry_at x.0 x.1 n k)
 
   traced : (k : ℕ) (es : List Entry) → All P es → All (IsOf k) (trace n k es)
@@ -46,12 +46,12 @@ module _ (P Q : Entry → Type 0) (n : ℕ)
       (eqb-true (place n (get_or (filter here es) i d)) k (filter_passes here es i d less))
       (All-filter here P es a i d less))
 
-  entered : (k : ℕ) (xs : List (Kind × ℕ)) → All (IsOf k) xs → All Q (entries_for n k xs)
+  entered : (k : ℕ) (xs : List (EntryKind × ℕ)) → All (IsOf k) xs → All Q (entries_for n k xs)
   entered k [] a = All-nil Q
   entered k (x ∷ xs) a = All-cons Q (entry_at x.0 x.1 n k) (entries_for n k xs)
       (All-head (IsOf k) x xs a) (entered k xs (All-tail (IsOf k) x xs a))
 
-  listed_all : (p : Kind × ℕ → Bool) (es : List Entry) → All P es → (k : ℕ)
+  listed_all : (p : EntryKind × ℕ → Bool) (es : List Entry) → All P es → (k : ℕ)
       → All Q (listed_by (filter p) n es k)
   listed_all p es a zero = All-nil Q
   listed_all p es a (suc k) =

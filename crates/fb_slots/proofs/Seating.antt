@@ -5,15 +5,15 @@ use Rattle.std.proofs.lemmas.Option.{same_Some}
 use Rattle.std.specs.Prelude.{option_map}
 use Rattle.atomic_table.specs.Table.{Me, rest}
 use Rattle.atomic_table.specs.Seated.{TableId}
-use Rattle.fb_book.specs.declared.entries.Kind.{Kind}
-use Rattle.fb_book.specs.declared.entries.Kind.TheVariants.{Took, Gave}
+use Rattle.fb_book.specs.declared.entries.EntryKind.{EntryKind}
+use Rattle.fb_book.specs.declared.entries.EntryKind.TheVariants.{Took, Gave}
 use Rattle.fb_book.specs.InternalBoard.{entry_at}
 use Rattle.fb_slots.specs.declared.views.Hand.{Hand}
 use Rattle.fb_slots.specs.Seats.{item_at, seat_value, seat_with_entry, seat_that_claimed, seat_that_gave, seat_that_took}
 use Rattle.fb_slots.specs.Slots.{Layout, TakesParent, held_of, with_entry, with_unit, with_end}
 
 -- an item's entry, by its slot and node
-entry_by : (kind : Kind) (w n slot node k : ℕ) → slot ≡ k / n → node ≡ k % n
+entry_by : (kind : EntryKind) (w n slot node k : ℕ) → slot ≡ k / n → node ≡ k % n
     → entry_at kind w n k ≡ record { kind = kind; worker = w; slot = slot; node = node }
 entry_by kind w n slot node k s m = λ i. record {
   kind = kind;
@@ -77,7 +77,7 @@ module _ {P : Type 0} (b : Layout) (board : TableId) (worker : ℕ) where
         held = option_map (item_at b.nodes) (held_of me.1);
       })
 
-  pub let_value : (kind : Kind) (me new : Me (Option P) Hand) (new_board : TableId)
+  pub let_value : (kind : EntryKind) (me new : Me (Option P) Hand) (new_board : TableId)
       (k slot node : ℕ) → new_board ≡ board
       → me.0.worker ≡ worker → new ≡ (with_entry b kind k me.0, []) → k ≡ slot * b.nodes + node
       → node < b.nodes

@@ -7,7 +7,7 @@ use mathlib.Core.Option.{some, none}
 use lib.ListN.{get_elem?}
 use Rattle.atomic_table.specs.Table.{State, Me, Act, keeps, takes, Allows, Valid, carried_after, stepped, step}
 use Rattle.atomic_table.proofs.Lists.{set_else}
-use Rattle.fb_book.specs.declared.entries.Kind.TheVariants.{Took}
+use Rattle.fb_book.specs.declared.entries.EntryKind.TheVariants.{Took}
 use Rattle.fb_book.specs.Machine.{trace}
 use Rattle.fb_slots.specs.declared.views.Hand.{Hand}
 use Rattle.fb_book.specs.InternalBoard.{entry_at}

@@ -2,8 +2,8 @@
 use Rattle.std.proofs.Common.{ℕ, ◌≡◌, ◌+◌, ◌<◌, ◌≤◌, ◌==◌, Bool, true, false, cond, List, [], ◌∷◌, ◌++◌, length, map, get_or, set, inl, inr, refl, sym, ap, ◌∙◌, arith, zero, suc}
 use Rattle.std.proofs.lemmas.Bool.{cases_eq, eq-eqb, ne_eqb}
 use Rattle.std.proofs.lemmas.List.{append-nil, append_assoc, get_or-set_same, get_or-set_other}
-use Rattle.fb_book.specs.declared.entries.Kind.{Kind}
-use Rattle.fb_book.specs.declared.entries.Kind.TheVariants.{Took, Gave, Left}
+use Rattle.fb_book.specs.declared.entries.EntryKind.{EntryKind}
+use Rattle.fb_book.specs.declared.entries.EntryKind.TheVariants.{Took, Gave, Left}
 use Rattle.fb_book.specs.declared.entries.Entry.{Entry}
 use Rattle.fb_book.specs.Machine.{IsComplete, place, trace}
 use Rattle.fb_book.specs.InternalBoard.{entry_at}
@@ -13,7 +13,7 @@ use Rattle.fb_slots.specs.Listed.{IsOrdered, IsWhole, entries_for, gains, leavin
 use Rattle.fb_slots.proofs.Hands.{trace-append}
 use Rattle.fb_slots.proofs.Listing.{whole_run}
 
-taker-append : (xs ys : List (Kind × ℕ)) (w : ℕ) → taker_of (xs ++ ys) w ≡ taker_of ys
+taker-append : (xs ys : List (EntryKind × ℕ)) (w : ℕ) → taker_of (xs ++ ys) w ≡ taker_of ys
     (taker_of xs w)
 taker-append [] ys w = refl
 taker-append (x ∷ xs) ys w = taker-append xs ys (next_taker x.0 x.1 w)
@@ -59,7 +59,7 @@ takers_else n count es e ws other each k less = elim (cases_eq k (place n e)) [
   | inr ne ↦ each k less ∙ sym (taker_next n k es e false (ne_eqb (place n e) k (λ s. ne (sym s))))
 ]
   where
-    same : (kind : Kind) → e.kind ≡ kind → (w : ℕ) → next_taker e.kind e.worker w ≡ w
+    same : (kind : EntryKind) → e.kind ≡ kind → (w : ℕ) → next_taker e.kind e.worker w ≡ w
     same Took f w = absurd (other f)
     same Gave f w = ap (λ x. next_taker x e.worker w) f
     same Left f w = ap (λ x. next_taker x e.worker w) f

@@ -1,12 +1,12 @@
 -- The order in which a history is listed.
 use Rattle.std.specs.Prelude.{ℕ, ◌+◌, ◌*◌, List, map}
 use Rattle.std.specs.List.Sorted.{IsStrictlyIncreasing}
-use Rattle.fb_book.specs.declared.entries.Kind.{Kind}
-use Rattle.fb_book.specs.declared.entries.Kind.TheVariants.{Took, Gave, Left}
+use Rattle.fb_book.specs.declared.entries.EntryKind.{EntryKind}
+use Rattle.fb_book.specs.declared.entries.EntryKind.TheVariants.{Took, Gave, Left}
 use Rattle.fb_book.specs.declared.entries.Entry.{Entry}
 use Rattle.fb_book.specs.Machine.{place}
 
-abbrev pub rank_of : Kind → ℕ
+abbrev pub rank_of : EntryKind → ℕ
 rank_of Took = 0
 rank_of Gave = 1
 rank_of Left = 1

@@ -2,8 +2,8 @@
 use Rattle.std.specs.Prelude.{ℕ, ◌+◌, ◌/◌, ◌%◌, Option, Some, None, option_map, List, [], ◌∷◌, ◌++◌}
 use Rattle.atomic_table.specs.Seated.{TableId}
 use Rattle.atomic_table.specs.Table.{Me}
-use Rattle.fb_book.specs.declared.entries.Kind.{Kind}
-use Rattle.fb_book.specs.declared.entries.Kind.TheVariants.{Took, Gave, Left}
+use Rattle.fb_book.specs.declared.entries.EntryKind.{EntryKind}
+use Rattle.fb_book.specs.declared.entries.EntryKind.TheVariants.{Took, Gave, Left}
 use Rattle.fb_book.specs.declared.entries.Entry.{Entry}
 use Rattle.fb_slots.specs.declared.views.Hand.{Hand}
 use Rattle.fb_slots.specs.Slots.{held_of}
@@ -26,7 +26,7 @@ new_seat board worker =
     record { board = board; worker = worker; entries = []; claimed = 0; ends = 0; held = None }
 
 -- the seat with one entry more, which names its worker and the item of this slot and node
-abbrev pub seat_with_entry : Kind → ℕ → ℕ → SeatValue → SeatValue
+abbrev pub seat_with_entry : EntryKind → ℕ → ℕ → SeatValue → SeatValue
 seat_with_entry kind slot node s =
     record s {
       entries = s.entries ++ record {

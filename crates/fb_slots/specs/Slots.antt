@@ -5,8 +5,8 @@ use Rattle.std.specs.List.{All}
 use mathlib.Core.Option.{some}
 use lib.ListN.{get_elem?}
 use Rattle.atomic_table.specs.Table.{State, Step, Me}
-use Rattle.fb_book.specs.declared.entries.Kind.{Kind}
-use Rattle.fb_book.specs.declared.entries.Kind.TheVariants.{Took, Gave, Left}
+use Rattle.fb_book.specs.declared.entries.EntryKind.{EntryKind}
+use Rattle.fb_book.specs.declared.entries.EntryKind.TheVariants.{Took, Gave, Left}
 use Rattle.fb_book.specs.declared.entries.Entry.{Entry}
 use Rattle.fb_book.specs.Machine.{Kids, IsForest, is_child, place, trace, is_loss}
 use Rattle.fb_book.specs.Board.{kids_in}
@@ -38,21 +38,21 @@ pub record IsLayout (b : Layout) : Type 0 where
   pub small : b.count + 2 < 18446744073709551616
 
 -- the sum over a list of events
-abbrev pub weigh : (Kind → ℕ) → List (Kind × ℕ) → ℕ
+abbrev pub weigh : (EntryKind → ℕ) → List (EntryKind × ℕ) → ℕ
 weigh f [] = 0
 weigh f (x ∷ xs) = f x.0 + weigh f xs
 
-abbrev pub as_taken : Kind → ℕ
+abbrev pub as_taken : EntryKind → ℕ
 as_taken Took = 1
 as_taken Gave = 0
 as_taken Left = 0
 
-abbrev pub as_given : Kind → ℕ
+abbrev pub as_given : EntryKind → ℕ
 as_given Took = 0
 as_given Gave = 1
 as_given Left = 0
 
-abbrev pub as_left : Kind → ℕ
+abbrev pub as_left : EntryKind → ℕ
 as_left Took = 0
 as_left Gave = 0
 as_left Left = 1
@@ -63,10 +63,10 @@ total f [] = 0
 total f (v ∷ vs) = f v + total f vs
 
 -- how often the item at place k stands in a view's entries, and in those of all views
-abbrev pub in_hand : (Kind → ℕ) → ℕ → ℕ → Hand → ℕ
+abbrev pub in_hand : (EntryKind → ℕ) → ℕ → ℕ → Hand → ℕ
 in_hand f n k v = weigh f (trace n k v.entries)
 
-abbrev pub in_hands : (Kind → ℕ) → ℕ → List Hand → ℕ → ℕ
+abbrev pub in_hands : (EntryKind → ℕ) → ℕ → List Hand → ℕ → ℕ
 in_hands f n vs k = total (in_hand f n k) vs
 
 abbrev pub losses : List Entry → ℕ
@@ -105,7 +105,7 @@ pub record AreItems {P : Type 0} (IsPiece : ℕ → P → Type 0) (b : Layout) (
       → (p : P) × (get_elem? homes k ≡ some (some (Some p))) × IsPiece k p
 
 -- what was done with an item in one view
-pub data IsDone : List (Kind × ℕ) → Type 0 where
+pub data IsDone : List (EntryKind × ℕ) → Type 0 where
   nothing : IsDone []
   holds : (w : ℕ) → IsDone ((Took, w) ∷ [])
   gave : (w : ℕ) → IsDone ((Took, w) ∷ (Gave, w) ∷ [])
@@ -158,7 +158,7 @@ hand worker entries ends seats drawn = record {
 }
 
 -- the view with one more entry of its worker, on the item at place k
-abbrev pub with_entry : Layout → Kind → ℕ → Hand → Hand
+abbrev pub with_entry : Layout → EntryKind → ℕ → Hand → Hand
 with_entry b kind k v = hand v.worker (v.entries ++ entry_at kind v.worker b.nodes k ∷ []) v.ends
     v.seats v.drawn
 

@@ -26,7 +26,7 @@ const ONE_CHILD_GIVEN: u64 = 1;
 
 /// What a claim gives a worker.
 #[derive(Drop)]
-pub enum Taken<N: Board> {
+pub enum Claimed<N: Board> {
     /// A unit to be solved, which the seat now holds.
     Unit(Ticket<N>),
     /// All units are taken.
@@ -140,21 +140,21 @@ impl<P: Piece, N: Board> SlotBook<P, N> {
     }
 
     /// Takes a unit for the seat's worker. `Over` if none is left, and the seat is then at its end.
-    pub fn claim(&self, seat: &mut SlotSeat<P, N>) -> Taken<N>
+    pub fn claim(&self, seat: &mut SlotSeat<P, N>) -> Claimed<N>
         requires own { seat.old.board ≡ self.now }
         requires open { seat.old.ends ≡ 0 }
         requires free { seat.old.held ≡ None }
-        ensures unit { (ticket : _) → result ≡ Taken.Unit ticket → (ticket.node < N.job.plan.units)
+        ensures unit { (ticket : _) → result ≡ Claimed.Unit ticket → (ticket.node < N.job.plan.units)
             × (seat.new ≡ seat_that_claimed ticket.slot ticket.node seat.old) }
-        ensures left { (ticket : _) → result ≡ Taken.Unit ticket
+        ensures left { (ticket : _) → result ≡ Claimed.Unit ticket
             → seat.old.claimed < length N.job.shots * N.job.plan.units }
-        ensures over { result ≡ Taken.Over → seat.new ≡ record seat.old { ends = 1 } }
+        ensures over { result ≡ Claimed.Over → seat.new ≡ record seat.old { ends = 1 } }
     {
         self.places.keeps();
         let number = claim(&self.table, &mut seat.holder);
         match self.places.unit(number) {
-            Some(place) => Taken::Unit(self.places.ticket(place)),
-            None => Taken::Over,
+            Some(place) => Claimed::Unit(self.places.ticket(place)),
+            None => Claimed::Over,
         }
     }
 

@@ -2,12 +2,12 @@
 
 ghost use Rattle.std.specs.Prelude.{◌≡◌, ℕ, ◌+◌, ◌-◌, ◌*◌, ◌<◌, ◌≤◌, ◌^◌, List, [], ◌∷◌, ◌++◌, Some, None, replicate, length, IfOk};
 ghost use Rattle.atomic_table.specs.Table.{rest};
-ghost use Rattle.fb_book.specs.declared.entries.Kind.TheVariants.{Took, Gave, Left};
+ghost use Rattle.fb_book.specs.declared.entries.EntryKind.TheVariants.{Took, Gave, Left};
 ghost use Rattle.fb_book.specs.Machine.{trace};
 ghost use Rattle.fb_book.specs.Books.{IsPieceAt};
 ghost use Rattle.fb_slots.specs.Slots.{IsLayout, layout_of, first_hand, hand, out_of, with_entry, with_unit, with_end, with_less, with_other, Claims, TakesParent, IsHeld, IsCountOf};
 
-use crate::law::{ClaimPlay, CountPlay, Cut, Law, MarkPlay};
+use crate::law::{ClaimPlay, CountPlay, Law, MarkPlay, SeatSplit};
 use crate::views::Hand;
 use atomic_table::{Seat, Table};
 use fb_book::{Board, Piece};
@@ -127,7 +127,7 @@ pub fn another<P: Piece, N: Board>(table: &Slots<P, N>, me: &mut Holder<P>) -> H
     ensures view { me.new.me ≡ (with_less me.old.me.0, me.old.me.1) }
     ensures new { result.me ≡ (hand (me.old.me.0.seats - 1) [] 0 1 0, []) }
 {
-    table.shared.split_seat::<Cut>(me)
+    table.shared.split_seat::<SeatSplit>(me)
 }
 
 /// Takes in what another one has done.
@@ -142,5 +142,5 @@ pub fn gather<P: Piece, N: Board>(table: &Slots<P, N>, me: &mut Holder<P>, other
       me.old.me.1,
     ) }
 {
-    table.shared.join_seat::<Cut>(me, other);
+    table.shared.join_seat::<SeatSplit>(me, other);
 }

@@ -11,7 +11,7 @@ ghost use Rattle.fb_slots.specs.Slots.{IsWithin, layout_of};
 ghost use Rattle.fb_book.specs.InternalBoard.{node_limit};
 
 use fb_book::moves::{count_of, entry_of, place_of};
-use fb_book::{Board, Entry, Kind};
+use fb_book::{Board, Entry, EntryKind};
 use fb_graph::NoMemory;
 use fb_plan::Job;
 use std::alloc::Global;
@@ -27,9 +27,9 @@ fn note(workers: &mut Vec<u32>, nodes: usize, entry: Entry)
         (trace nodes k (es ++ entry ∷ [])) 0 }
 {
     match entry.kind {
-        Kind::Took => workers[place_of(nodes, entry.slot, entry.node)] = entry.worker,
-        Kind::Gave => {}
-        Kind::Left => {}
+        EntryKind::Took => workers[place_of(nodes, entry.slot, entry.node)] = entry.worker,
+        EntryKind::Gave => {}
+        EntryKind::Left => {}
     }
 }
 
@@ -81,8 +81,8 @@ pub fn history_of<N: Board>(
     let mut history = Vec::with_capacity(alloc, 2 * count)?;
     for place in 0..count {
         let worker = workers[place];
-        history.push_reserved(entry_of(Kind::Took, worker, nodes, place));
-        history.push_reserved(entry_of(Kind::Gave, worker, nodes, place));
+        history.push_reserved(entry_of(EntryKind::Took, worker, nodes, place));
+        history.push_reserved(entry_of(EntryKind::Gave, worker, nodes, place));
     }
     Ok(history)
 }

@@ -58,9 +58,9 @@ impl<P: Piece, N: Board> Play<Option<P>, Hand> for MarkPlay<N> {
 
 /// A new seat has no entry, and the number of seats that are left for its worker's. Of two seats that become one, the
 /// second one's entries come first.
-pub struct Cut;
+pub struct SeatSplit;
 
-impl Split<Hand> for Cut {
+impl Split<Hand> for SeatSplit {
     ghost use Rattle.std.specs.Prelude.{[], ◌-◌};
     ghost use Rattle.fb_slots.specs.Slots.{hand, with_less};
 
@@ -69,7 +69,7 @@ impl Split<Hand> for Cut {
     ghost right = { λ v. hand (v.seats - 1) [] 0 1 0 };
 }
 
-impl Join<Hand> for Cut {
+impl Join<Hand> for SeatSplit {
     ghost use Rattle.std.specs.Prelude.{[]};
     ghost use Rattle.fb_slots.specs.Slots.{hand, with_other};
 

@@ -13,7 +13,7 @@ mod seats;
 mod ticket;
 mod views;
 
-pub use board::{After, Closed, SlotBook, Taken};
+pub use board::{After, Claimed, Closed, SlotBook};
 pub use history::history_of;
 pub use run::Run;
 pub use seats::SlotSeat;

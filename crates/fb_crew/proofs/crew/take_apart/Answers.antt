@@ -6,7 +6,7 @@ use Rattle.fb_crew.proofs.crew.take_apart.Goals as goal
 
 pub loop-member-preserved : goal.loop-member-preserved
 loop-member-preserved g c =
-    let passed = g.G.Gate.passed c.args.bench.now.gate.now in
+    let passed = g.G.Gate.passed c.args.runner.now.gate.now in
     let i = c.loop-member.invariant in
     let m = c.in-Some.member in
     let rest = popped (λ x. IsEnded c.args.board.now passed x.worker.seat) c.loop-member.members.items c.pop.new.self.items m c.in-Some.ensures.items i.members in

@@ -8,10 +8,10 @@ use Rattle.fb_crew.proofs.ends.finish.Goals as goal
 pub finish-requires-clause-ended : goal.finish-requires-clause-ended
 finish-requires-clause-ended g c =
     let all = c.requires.all in
-    some_end c.args.board (g.G.Gate.passed c.args.bench.now.gate.now) c.args.seats.items c.requires.ended (omega (arith, all))
+    some_end c.args.board (g.G.Gate.passed c.args.runner.now.gate.now) c.args.seats.items c.requires.ended (omega (arith, all))
 
 pub returns-clause-passed : goal.returns-clause-passed
 returns-clause-passed g c =
-    let passed = g.G.Gate.passed c.args.bench.now.gate.now in
+    let passed = g.G.Gate.passed c.args.runner.now.gate.now in
     let came = all_came c.args.board passed c.args.seats.items c.requires.ended in
     λ k d less. All-contains (HasPassed passed) (entries_in c.args.seats.items) _ came (c.in_ok-run.ensures.own k d less)

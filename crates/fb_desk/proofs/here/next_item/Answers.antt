@@ -1,14 +1,14 @@
 use Rattle.std.proofs.Common.{◌≡◌, true, refl, sym, subst}
 use Rattle.std.specs.Prelude.{Result, Ok, IfOk}
-use Rattle.fb_book.specs.declared.entries.Kind.TheVariants.{Gave}
+use Rattle.fb_book.specs.declared.entries.EntryKind.TheVariants.{Gave}
 use Rattle.fb_book.specs.Board.{Lets, is_finished}
 use Rattle.fb_book.specs.Books.{course_of, holds}
-use Rattle.fb_desk.specs.declared.here.Turn.{Turn}
-use Rattle.fb_desk.specs.declared.here.Turn.TheVariants.{Done, NoItem}
+use Rattle.fb_desk.specs.declared.here.Progress.{Progress}
+use Rattle.fb_desk.specs.declared.here.Progress.TheVariants.{Done, NoItem}
 use Rattle.fb_desk.proofs.Turns.{finished_when_over, held_once_taken, none_to_wait_for, once_done, quiet_once_given, two_more}
 use Rattle.fb_desk.proofs.here.next_item.Goals as goal
 
-done_alone : {E : Type 0} (r : Result Turn E) → IfOk r (λ turn. turn ≡ Done) → r ≡ Ok NoItem → ⊥
+done_alone : {E : Type 0} (r : Result Progress E) → IfOk r (λ turn. turn ≡ Done) → r ≡ Ok NoItem → ⊥
 done_alone r done none =
     let same : NoItem ≡ Done = subst (λ s. IfOk s (λ turn. turn ≡ Done)) none done in
     let never : ⊥ = cc in never

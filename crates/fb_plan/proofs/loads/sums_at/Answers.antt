@@ -1,13 +1,13 @@
 use Rattle.std.proofs.Common.{◌≡◌, ◌+◌, ◌<◌, ◌≤◌, ◌^◌, ◌∙◌, sym, ap, length, get_or, take, eqb, arith, length-set}
 use Rattle.std.proofs.lemmas.List.{get_or_read_under}
 use Rattle.fb_plan.specs.InternalLoads.{bounded_at, place_of}
-use Rattle.fb_plan.specs.declared.parts.Claim.{Claim}
+use Rattle.fb_plan.specs.declared.parts.OwnedRange.{OwnedRange}
 use Rattle.fb_plan.proofs.Tallies.{place-le, sum_fits, sums_more}
 use Rattle.fb_plan.proofs.loads.sums_at.Goals as goal
 
 pub overflow_add-sum : goal.overflow_add-sum
 overflow_add-sum c =
-    let at : Claim = get_or c.args.claims.now c.loop-claim.claim-index (record { node = 0; start = 0; end = 0 }) in
+    let at : OwnedRange = get_or c.args.claims.now c.loop-claim.claim-index (record { node = 0; start = 0; end = 0 }) in
     let less : c.loop-claim.claim-index < length c.args.claims.now = omega arith in
     let low : place_of c.args.bound at ≤ c.args.vertices = place-le c.args.bound c.args.vertices at (c.requires c.loop-claim.claim-index _ less) in
     let here : c.place-at.result ≤ c.args.vertices = omega (arith, low, c.place-at.ensures) in
@@ -19,7 +19,7 @@ overflow_add-sum c =
 
 pub loop-claim-preserved : goal.loop-claim-preserved
 loop-claim-preserved c =
-    let at : Claim = get_or c.args.claims.now c.loop-claim.claim-index (record { node = 0; start = 0; end = 0 }) in
+    let at : OwnedRange = get_or c.args.claims.now c.loop-claim.claim-index (record { node = 0; start = 0; end = 0 }) in
     let less : c.loop-claim.claim-index < length c.args.claims.now = omega arith in
     let low : place_of c.args.bound at ≤ c.args.vertices = place-le c.args.bound c.args.vertices at (c.requires c.loop-claim.claim-index _ less) in
     let here : c.place-at.result ≤ c.args.vertices = omega (arith, low, c.place-at.ensures) in

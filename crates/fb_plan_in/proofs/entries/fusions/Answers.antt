@@ -1,6 +1,6 @@
 use Rattle.std.proofs.Common.{◌∙◌, arith}
 use Rattle.std.proofs.lemmas.Grind.{common_steps}
-use Rattle.fb_plan.specs.declared.faults.Place.TheVariants as place
+use Rattle.fb_plan.specs.declared.faults.PlanPlace.TheVariants as place
 use Rattle.fb_plan_in.specs.PlanText.{fusion_of}
 use Rattle.fb_plan_in.proofs.FaultyEntries.{faulty}
 use Rattle.fb_plan_in.proofs.entries.fusions.Goals as goal

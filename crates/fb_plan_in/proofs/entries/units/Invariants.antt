@@ -1,6 +1,6 @@
 use Rattle.std.proofs.Common.{◌≡◌, map, drop}
 use Rattle.serde_json.specs.View.{items_view}
-use Rattle.fb_plan.specs.declared.faults.Place.TheVariants as place
+use Rattle.fb_plan.specs.declared.faults.PlanPlace.TheVariants as place
 use Rattle.fb_json.specs.JsonText.{onto}
 use Rattle.fb_plan_in.specs.PlanText.{ranges_of, entries_of}
 use Rattle.fb_plan_in.proofs.entries.units.Given as goal

@@ -2,7 +2,7 @@ use Rattle.std.proofs.Common.{◌≡◌, ◌+◌, ◌++◌, Bool, List, ℕ, sym
 use Rattle.std.specs.List.{flat_map}
 use Rattle.std.proofs.lemmas.List.{flat_map_more, take_more}
 use Rattle.fb_book.specs.declared.entries.Entry.{Entry}
-use Rattle.fb_book.specs.declared.entries.Kind.TheVariants.{Took}
+use Rattle.fb_book.specs.declared.entries.EntryKind.TheVariants.{Took}
 use Rattle.fb_report.specs.Texts.{trace_line}
 use Rattle.fb_run.specs.Decoding.{event_line, is_gave}
 use Rattle.fb_run.proofs.batches.add_events.Goals as goal

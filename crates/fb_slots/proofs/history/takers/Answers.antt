@@ -1,6 +1,6 @@
 use Rattle.std.proofs.Common.{ℕ, ◌<◌, take, sym, ap, subst, ◌∙◌}
 use Rattle.std.proofs.lemmas.List.{take_more}
-use Rattle.fb_book.specs.declared.entries.Kind.TheVariants.{Took}
+use Rattle.fb_book.specs.declared.entries.EntryKind.TheVariants.{Took}
 use Rattle.fb_book.specs.Machine.{trace}
 use Rattle.fb_slots.specs.Listed.{taker_of}
 use Rattle.fb_slots.proofs.history.takers.Goals as goal

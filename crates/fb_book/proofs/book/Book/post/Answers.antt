@@ -1,6 +1,6 @@
 use Rattle.std.proofs.Common.{◌≡◌, ◌+◌, ◌*◌, Some, true, set, ap, subst, ◌∙◌, arith, rules}
 use Rattle.std.proofs.lemmas.Grind.{common_steps}
-use Rattle.fb_book.specs.declared.entries.Kind.TheVariants.{Gave}
+use Rattle.fb_book.specs.declared.entries.EntryKind.TheVariants.{Gave}
 use Rattle.fb_book.specs.Board.{Lets, nodes_of}
 use Rattle.fb_book.proofs.Keeping.{book_given}
 use Rattle.fb_book.proofs.book.Book.post.Goals as goal

@@ -1,5 +1,5 @@
 use Rattle.std.proofs.Common.{◌≡◌, true, subst, rules}
-use Rattle.fb_book.specs.declared.entries.Kind.TheVariants.{Left}
+use Rattle.fb_book.specs.declared.entries.EntryKind.TheVariants.{Left}
 use Rattle.fb_book.specs.Board.{Lets}
 use Rattle.fb_book.proofs.Keeping.{book_left}
 use Rattle.fb_book.proofs.book.Book.starve.Goals as goal

@@ -12,8 +12,8 @@ invariant-loop-piece g l = record {
   room : length l.self.entries.items < vec_capacity l.self.entries;
   piece : IfOk l.piece (IsPieceAt g.P.Piece.job_of g.P.Piece.slot_of g.P.Piece.node_of g.P.Piece.made_of g.N.Board.job
       (place_of g.N.Board.job l.ticket.slot l.ticket.node));
-  came : All (HasPassed (g.G.Gate.passed l.bench.gate.now)) l.self.seat.entries;
-  passed : OnOk l.piece (g.G.Gate.passed l.bench.gate.now l.self.seat.worker l.ticket.slot l.ticket.node);
+  came : All (HasPassed (g.G.Gate.passed l.runner.gate.now)) l.self.seat.entries;
+  passed : OnOk l.piece (g.G.Gate.passed l.runner.gate.now l.self.seat.worker l.ticket.slot l.ticket.node);
   ends : l.self.seat.ends ≡ l.initial.self.seat.ends;
   claimed : l.self.seat.claimed ≡ l.initial.self.seat.claimed;
 }

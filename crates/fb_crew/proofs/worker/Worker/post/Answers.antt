@@ -1,5 +1,5 @@
 use Rattle.std.proofs.Common.{sym, ap, ◌∙◌}
-use Rattle.fb_book.specs.declared.entries.Kind.TheVariants.{Took, Gave}
+use Rattle.fb_book.specs.declared.entries.EntryKind.TheVariants.{Took, Gave}
 use Rattle.fb_slots.specs.Seats.{SeatValue, seat_that_gave}
 use Rattle.fb_crew.proofs.Entries.{entry_more}
 use Rattle.fb_crew.proofs.worker.Worker.post.Goals as goal

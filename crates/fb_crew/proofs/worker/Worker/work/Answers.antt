@@ -15,7 +15,7 @@ climb-requires-clause-unit g c κs within = (c.claim.ensures.unit c.in-Unit.tick
 
 pub climb-requires-clause-came : goal.climb-requires-clause-came
 climb-requires-clause-came g c κs within =
-    came_claimed (g.G.Gate.passed c.args.bench.now.gate.now) c.in-Unit.ticket.slot c.in-Unit.ticket.node c.loop-self.self.seat
+    came_claimed (g.G.Gate.passed c.args.runner.now.gate.now) c.in-Unit.ticket.slot c.in-Unit.ticket.node c.loop-self.self.seat
     c.claim.new.self.seat (c.claim.ensures.unit c.in-Unit.ticket c.in-Unit.is).1 c.loop-self.invariant.came
 
 pub loop-self-smaller : goal.loop-self-smaller

@@ -7,7 +7,7 @@ abbrev pub invariant-loop-self : goal.invariant-loop-self
 invariant-loop-self g l = record {
   own : l.self.seat.board ≡ l.board;
   unended : l.self.seat.ends ≡ 0;
-  came : All (HasPassed (g.G.Gate.passed l.bench.gate.now)) l.self.seat.entries;
+  came : All (HasPassed (g.G.Gate.passed l.runner.gate.now)) l.self.seat.entries;
   free : l.self.seat.held ≡ None;
 }
 

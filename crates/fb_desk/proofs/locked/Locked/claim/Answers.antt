@@ -1,5 +1,5 @@
 use Rattle.std.proofs.Common.{◌+◌, refl, sym, ap, ◌∙◌}
-use Rattle.fb_book.specs.declared.entries.Kind.TheVariants.{Took}
+use Rattle.fb_book.specs.declared.entries.EntryKind.TheVariants.{Took}
 use Rattle.fb_desk.proofs.Turns.{one_more}
 use Rattle.fb_desk.proofs.locked.Locked.claim.Goals as goal
 

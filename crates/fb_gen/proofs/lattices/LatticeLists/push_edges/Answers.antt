@@ -1,6 +1,6 @@
 use Rattle.std.proofs.Common.{arith}
 use Rattle.std.proofs.lemmas.Grind.{common_steps}
-use Rattle.fb_gen.proofs.lattices.Parts.push_edges.Goals as goal
+use Rattle.fb_gen.proofs.lattices.LatticeLists.push_edges.Goals as goal
 
 pub overflow_add-below : goal.overflow_add-below
 overflow_add-below c = grind (arith, common_steps)

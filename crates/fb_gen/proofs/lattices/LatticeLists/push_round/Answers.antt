@@ -1,6 +1,6 @@
 use Rattle.fb_gen.specs.Lattice.{edges_of_row, virtuals_of_row}
 use Rattle.fb_gen.proofs.Grids.{piece_added}
-use Rattle.fb_gen.proofs.lattices.Parts.push_round.Goals as goal
+use Rattle.fb_gen.proofs.lattices.LatticeLists.push_round.Goals as goal
 
 pub loop-row-preserved : goal.loop-row-preserved
 loop-row-preserved c = (

@@ -1,7 +1,7 @@
 use Rattle.std.proofs.Common.{◌≡◌, ◌++◌}
 use Rattle.std.specs.List.{flat_map, range_with_len}
 use Rattle.fb_gen.specs.Lattice.{edges_of_row, virtuals_of_row}
-use Rattle.fb_gen.proofs.lattices.Parts.push_round.Given as goal
+use Rattle.fb_gen.proofs.lattices.LatticeLists.push_round.Given as goal
 
 abbrev pub invariant-loop-row : goal.invariant-loop-row
 invariant-loop-row l =

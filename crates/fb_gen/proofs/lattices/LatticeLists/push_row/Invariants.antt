@@ -1,7 +1,7 @@
 use Rattle.std.proofs.Common.{◌≡◌, ◌++◌}
 use Rattle.std.specs.List.{flat_map, range_with_len}
 use Rattle.fb_gen.specs.Lattice.{edges_from}
-use Rattle.fb_gen.proofs.lattices.Parts.push_row.Given as goal
+use Rattle.fb_gen.proofs.lattices.LatticeLists.push_row.Given as goal
 
 abbrev pub invariant-loop-column : goal.invariant-loop-column
 invariant-loop-column l =

@@ -1,7 +1,7 @@
 use Rattle.std.proofs.Common.{◌∙◌}
 use Rattle.fb_gen.specs.Lattice.{edges_from}
 use Rattle.fb_gen.proofs.Grids.{piece_added}
-use Rattle.fb_gen.proofs.lattices.Parts.push_row.Goals as goal
+use Rattle.fb_gen.proofs.lattices.LatticeLists.push_row.Goals as goal
 
 pub loop-column-preserved : goal.loop-column-preserved
 loop-column-preserved c = (

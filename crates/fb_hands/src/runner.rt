@@ -19,13 +19,13 @@ pub struct Item {
 
 /// The hands and the gate of a crew, with the allocator that its hands use.
 #[derive(Drop)]
-pub struct Bench<'a, H, G> {
+pub struct ItemRunner<'a, H, G> {
     pub alloc: Global,
     pub hands: &'a H,
     pub gate: &'a G,
 }
 
-impl<'a, H, G: Gate> Bench<'a, H, G> {
+impl<'a, H, G: Gate> ItemRunner<'a, H, G> {
     /// The piece of a unit, once it has passed the gate.
     pub fn unit<P: Piece, T, N: Board>(&self, tools: &mut T, item: Item) -> Result<P, NoMemory>
     where
