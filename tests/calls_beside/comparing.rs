@@ -3,7 +3,7 @@
 use crate::plain::{PlainDual, PlainLayer, PlainNode};
 use crate::readings::Readings;
 use crate::stopped::Stopped;
-use fb_graph::Whole;
+use fb_graph::{NumberList, Whole};
 use fb_regions::{Holder, Layer, NodeId, Regions, Step};
 use std::alloc::Global;
 use std::fmt::Debug;
@@ -156,7 +156,14 @@ impl Comparison<'_, '_> {
             }
         }
         let cuts = self.regions.cuts(self.alloc)?;
-        self.expect_layers("cuts", 0, &cuts, &expected)
+        let mut found = Vec::new(self.alloc);
+        for place in 0..cuts.len() {
+            found.push(Layer {
+                value: cuts.value(place),
+                vertices: NumberList::from_vec(Vec::from_slice(self.alloc, cuts.vertices(place))?),
+            })?;
+        }
+        self.expect_layers("cuts", 0, &found, &expected)
     }
 
     /// Stops if what the call returned isn't as expected.

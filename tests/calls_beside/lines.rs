@@ -1,7 +1,7 @@
 //! Graphs that are lines, whose ends are boundary, with plans of units in a row; and rows of such graphs.
 
 use crate::stopped::Stopped;
-use fb_graph::{Cut, Graph, Row, Shot};
+use fb_graph::{CutList, Graph, Row, Shot};
 use fb_plan::{Join, Plan};
 use std::alloc::Global;
 
@@ -54,17 +54,17 @@ pub fn is_row(row: &Row, edges: &[u32], weight: i128, cuts: &[Known<'_>]) -> boo
             base,
             weight: sum,
             cuts: list,
-        } => found.as_slice() == edges && *base == 0 && *sum == weight && are_cuts(list.as_slice(), cuts),
+        } => found.as_slice() == edges && *base == 0 && *sum == weight && are_cuts(list, cuts),
         Row::Odd(_) => false,
     }
 }
 
-fn are_cuts(found: &[Cut], cuts: &[Known<'_>]) -> bool {
+fn are_cuts(found: &CutList, cuts: &[Known<'_>]) -> bool {
     if found.len() != cuts.len() {
         return false;
     }
-    for (cut, (value, vertices)) in found.iter().zip(cuts.iter()) {
-        if cut.value != *value || cut.vertices.as_slice() != *vertices {
+    for (place, (value, vertices)) in cuts.iter().enumerate() {
+        if found.value(place) != *value || found.vertices(place) != *vertices {
             return false;
         }
     }

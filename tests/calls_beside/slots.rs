@@ -4,10 +4,10 @@ ghost use Rattle.std.specs.Prelude.{None};
 
 use crate::stopped::Stopped;
 use crate::workers::Pair;
-use fb_book::{Board, Entry, Kind, Piece};
+use fb_book::{Board, Entry, EntryKind, Piece};
 use fb_graph::{Graph, Shot};
 use fb_plan::{Job, Plan};
-use fb_slots::{After, Closed, SlotBook, SlotSeat, Taken, Ticket, history_of};
+use fb_slots::{After, Closed, SlotBook, SlotSeat, Claimed, Ticket, history_of};
 use std::alloc::Global;
 use std::marker::Brand;
 
@@ -48,17 +48,17 @@ fn counted<'a, N: Board>(job: &'a Job<'a>, ticket: &Ticket<N>, nodes: u32) -> Co
 }
 
 /// The ticket of a claim that takes a unit.
-fn unit<N: Board>(taken: Taken<N>) -> Result<Ticket<N>, Stopped> {
+fn unit<N: Board>(taken: Claimed<N>) -> Result<Ticket<N>, Stopped> {
     match taken {
-        Taken::Unit(ticket) => Ok(ticket),
-        Taken::Over => Err(Stopped::Differs("a claim with units left")),
+        Claimed::Unit(ticket) => Ok(ticket),
+        Claimed::Over => Err(Stopped::Differs("a claim with units left")),
     }
 }
 
-fn unless_over<N: Board>(taken: Taken<N>) -> Result<(), Stopped> {
+fn unless_over<N: Board>(taken: Claimed<N>) -> Result<(), Stopped> {
     match taken {
-        Taken::Unit(_) => Err(Stopped::Differs("a claim with no unit left")),
-        Taken::Over => Ok(()),
+        Claimed::Unit(_) => Err(Stopped::Differs("a claim with no unit left")),
+        Claimed::Over => Ok(()),
     }
 }
 
@@ -195,7 +195,7 @@ pub fn number_each_seat(alloc: Global) -> Result<(), Stopped> {
     number::<Brand>(alloc, &job)
 }
 
-fn entry(kind: Kind, worker: u32, slot: u32, node: u32) -> Entry {
+fn entry(kind: EntryKind, worker: u32, slot: u32, node: u32) -> Entry {
     Entry {
         kind,
         worker,
@@ -210,20 +210,20 @@ fn are_same(one: &Entry, other: &Entry) -> bool {
 
 fn list<'a, N: Board>(alloc: Global, job: &'a Job<'a>) -> Result<(), Stopped> {
     let entries = [
-        entry(Kind::Took, 1, 0, 1),
-        entry(Kind::Gave, 1, 0, 1),
-        entry(Kind::Took, 1, 0, 2),
-        entry(Kind::Gave, 1, 0, 2),
-        entry(Kind::Took, 0, 0, 0),
-        entry(Kind::Gave, 0, 0, 0),
+        entry(EntryKind::Took, 1, 0, 1),
+        entry(EntryKind::Gave, 1, 0, 1),
+        entry(EntryKind::Took, 1, 0, 2),
+        entry(EntryKind::Gave, 1, 0, 2),
+        entry(EntryKind::Took, 0, 0, 0),
+        entry(EntryKind::Gave, 0, 0, 0),
     ];
     let wanted = [
-        entry(Kind::Took, 0, 0, 0),
-        entry(Kind::Gave, 0, 0, 0),
-        entry(Kind::Took, 1, 0, 1),
-        entry(Kind::Gave, 1, 0, 1),
-        entry(Kind::Took, 1, 0, 2),
-        entry(Kind::Gave, 1, 0, 2),
+        entry(EntryKind::Took, 0, 0, 0),
+        entry(EntryKind::Gave, 0, 0, 0),
+        entry(EntryKind::Took, 1, 0, 1),
+        entry(EntryKind::Gave, 1, 0, 1),
+        entry(EntryKind::Took, 1, 0, 2),
+        entry(EntryKind::Gave, 1, 0, 2),
     ];
     let history = history_of::<N>(alloc, job, &entries)?;
     Stopped::unless(history.len() == 6, "the length of a history")?;

@@ -2,7 +2,7 @@
 
 use crate::lines::{Known, Line};
 use crate::stopped::Stopped;
-use fb_graph::{Cut, CutList, Graph, NumberList, Row, Shot};
+use fb_graph::{CutList, Graph, NumberList, Row, Shot};
 use fb_verify::{Judge, Verdict, check_row};
 use std::alloc::Global;
 
@@ -93,19 +93,15 @@ fn row_with_base(
     (base, weight): (i128, i128),
     cuts: &[Known<'_>],
 ) -> Result<Row, Stopped> {
-    let mut list = Vec::new(alloc);
+    let mut list = CutList::new(alloc);
     for (value, vertices) in cuts {
-        let vertices = NumberList::from_vec(Vec::from_slice(alloc, vertices)?);
-        list.push(Cut {
-            value: *value,
-            vertices,
-        })?;
+        list.push(*value, vertices)?;
     }
     Ok(Row::Best {
         edges: NumberList::from_vec(Vec::from_slice(alloc, edges)?),
         base,
         weight,
-        cuts: CutList::from_vec(list),
+        cuts: list,
     })
 }
 

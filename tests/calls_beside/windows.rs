@@ -2,7 +2,7 @@
 
 use crate::lines::{Line, is_row};
 use crate::stopped::Stopped;
-use fb_crew::{Crew, Entry, Gate, Kind, OpenGate, Window, decode_here, decode_window};
+use fb_crew::{Crew, Entry, Gate, EntryKind, OpenGate, Window, decode_here, decode_window};
 use fb_graph::{Graph, Row, Shot, components};
 use fb_plan::{Join, Plan};
 use std::alloc::Global;
@@ -67,7 +67,7 @@ fn is_of_the_second(history: &[Entry], workers: u32) -> bool {
         if entry.slot != 1 || entry.worker >= workers || entry.node > 2 {
             return false;
         }
-        let bit = if entry.kind == Kind::Took { 1 } else { 8 };
+        let bit = if entry.kind == EntryKind::Took { 1 } else { 8 };
         seen |= bit << entry.node;
     }
     history.len() == 6 && seen == 63

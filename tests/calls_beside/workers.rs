@@ -4,7 +4,7 @@ ghost use Rattle.std.specs.Prelude.{Some};
 
 use crate::stopped::Stopped;
 use fb_book::{Board, Book, Claim, Permit, Piece};
-use fb_crew::{Entry, Gate, Hands, Kind, OpenGate, Worked, work_all, work_here};
+use fb_crew::{Entry, Gate, Hands, EntryKind, OpenGate, Worked, work_all, work_here};
 use fb_graph::{Graph, NoMemory, Shot};
 use fb_plan::{Job, Join, Plan};
 use std::alloc::Global;
@@ -149,7 +149,7 @@ impl Meeting {
     fn has_seen(&self, history: &[Entry]) -> bool {
         history
             .iter()
-            .all(|entry| entry.kind != Kind::Gave || self.has_noted(entry))
+            .all(|entry| entry.kind != EntryKind::Gave || self.has_noted(entry))
     }
 
     /// Whether an entry's worker came with its item.
@@ -378,7 +378,7 @@ pub fn ask_for_no_fusion<R: Threads + Sync>(rt: &R, alloc: Global) -> Result<(),
 /// node.
 fn is_in_place(history: &[Entry], place: usize) -> bool {
     let (entry, first) = (&history[place], &history[place - place % 2]);
-    let kind = if place % 2 == 0 { Kind::Took } else { Kind::Gave };
+    let kind = if place % 2 == 0 { EntryKind::Took } else { EntryKind::Gave };
     let item = (place / 6, place / 2 % 3);
     entry.kind == kind && (entry.slot as usize, entry.node as usize) == item && entry.worker == first.worker
 }
