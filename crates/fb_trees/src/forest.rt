@@ -75,7 +75,7 @@ impl Forest {
 
     /// One tree for each root, the root alone, in the room of this forest. Takes time for each tree of this forest, for the
     /// nodes of those that aren't dissolved, and for each root, but never for the room of the tables, which grow only for a
-    /// name larger than each before.
+    /// name larger than each before. If memory runs out, the forest has the trees of some of the first roots.
     pub fn restart(&mut self, alloc: Global, roots: &[NodeId]) -> Result<(), NoMemory>
         requires { AreDistinct roots.now }
         ensures { OnOk result (self.new ≡ bare_trees roots.now) }
