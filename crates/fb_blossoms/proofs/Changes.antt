@@ -6,11 +6,12 @@ use Rattle.fb_links.specs.Lists.{is_in}
 use Rattle.fb_links.specs.declared.cycle.CycleStep.{CycleStep}
 use Rattle.fb_blossoms.specs.InternalItems.{Item}
 use Rattle.fb_blossoms.specs.Nodes.{Adds, Node, TakesOff, blossom, defects_at, defects_of, is_on, node_at}
-use Rattle.fb_blossoms.specs.InternalForest.{IsItem, IsKept, IsOddItem, IsPlaceOf, cycle_in, defects_in, held_at, is_kept, item_at, last_place, made_at, made_in, node_of, nodes_of, own_at, own_in, parent_at, parent_in, place_at, place_of, reparented_item, steps_at, with_parent}
+use Rattle.fb_blossoms.specs.InternalForest.{AreOwnApart, IsItem, IsKept, IsOddItem, IsPlaceOf, cycle_in, defects_in, held_at, is_kept, item_at, last_place, made_at, made_in, node_of, nodes_of, own_at, own_in, parent_at, parent_in, place_at, place_of, reparented_item, steps_at, with_parent}
+use Rattle.fb_blossoms.specs.InternalLeaves.{HasLeaves, IsGrown}
 use Rattle.fb_blossoms.proofs.Climbs.{kept_child, kept_parent, none_some, same_some}
 use Rattle.fb_blossoms.proofs.Seats.{last_place_is}
 use Rattle.fb_blossoms.proofs.Held.{along_same, node_from, same_levels}
-use Rattle.fb_blossoms.proofs.Nested.{blossom_from, leaf_cycle, one_in}
+use Rattle.fb_blossoms.proofs.Nested.{blossom_from, leaf_cycle, one_in, own_alone}
 
 abbrev put : Bool → ℕ → Option ℕ → Option Item → Option Item
 put b k parent o = if b then option_map (with_parent parent k) o else o
@@ -100,14 +101,23 @@ module _ (old new : List (Option Item)) (key : ℕ) (same : AreSame old new key)
       (λ h. ap (λ k. defects_in new (suc k) x) (same.made x n)
       ∙ same_levels old new P (λ y q. same.own y (off y q)) (λ y q. same.steps y (off y q)) closed (suc (made_at old x)) x (p h))
 
+-- the index may have more leaves
+pub regrown : (slots : List (Option Item)) (leaves leaves' : ℕ → Option ℕ) (made : ℕ) → IsKept slots leaves made → IsGrown slots leaves leaves'
+    → IsKept slots leaves' made
+regrown slots leaves leaves' made kept grown = record {
+  forest = kept.forest;
+  apart = kept.apart;
+  leaf_at = λ d x e. elim (grown.known d x e) [ inl was ↦ kept.leaf_at d x was | inr own ↦ own_alone slots made kept.forest x d own ];
+  leaf_of = λ d x p h e. grown.stays d x h (kept.leaf_of d x p h e);
+}
+
 -- a node is added under a free number, and becomes the parent of outer nodes
-module _ (old new : List (Option Item)) (leaves leaves' : ℕ → Option ℕ) (made : ℕ) (kept : IsKept old leaves made) (key : ℕ) (i : Item)
+module _ (old new : List (Option Item)) (leaves : ℕ → Option ℕ) (made : ℕ) (kept : IsKept old leaves made) (key : ℕ) (i : Item)
     (fresh : item_at old key ≡ None) (here : item_at new key ≡ Some i) (top : i.parent ≡ None) (made_is : i.made ≡ made)
     (others : (x : ℕ) → x ≢ key → item_at new x ≡ reparented_item i.cycle (Some key) x (item_at old x))
     (live : (x : ℕ) → is_on i.cycle x ≡ true → is_kept old x ≡ true) (outer : (x : ℕ) → is_on i.cycle x ≡ true → parent_at old x ≡ None)
-    (shaped : IsItem i.own i.cycle) (leaf_new : (d : ℕ) → is_in i.own d ≡ true → leaves' d ≡ Some key)
-    (leaf_old : (d : ℕ) → is_in i.own d ≡ false → leaves' d ≡ leaves d)
-    (no_leaf : (d : ℕ) → is_in i.own d ≡ true → leaves d ≡ None) (alone : (d : ℕ) → is_in i.own d ≡ true → i.own ≡ d ∷ []) where
+    (shaped : IsItem i.own i.cycle) (unowned : (d x : ℕ) → is_in i.own d ≡ true → is_in (own_at old x) d ≡ true → ⊥)
+    (entered : HasLeaves old leaves (is_on i.cycle)) where
   gone : is_kept old key ≡ false
   gone = ap (λ (o : Option Item). is_some o) fresh
 
@@ -229,28 +239,39 @@ module _ (old new : List (Option Item)) (leaves leaves' : ℕ → Option ℕ) (m
   own_off : (x d : ℕ) → is_in (own_at old x) d ≡ true → x ≢ key
   own_off x d h e = both_ways (is_in (own_at old key) d) (ap (λ o. is_in (own_in o) d) fresh) (ap (λ y. is_in (own_at old y) d) (sym e) ∙ h)
 
-  pub kept_added : IsKept new leaves' (made + 1)
+  own_key : (x d : ℕ) → x ≡ key → is_in (own_at new x) d ≡ true → is_in i.own d ≡ true
+  own_key x d k h = ap (λ o. is_in (own_in o) d) (sym (ap (item_at new) k ∙ here)) ∙ h
+
+  own_other : (x d : ℕ) → x ≢ key → is_in (own_at new x) d ≡ true → is_in (own_at old x) d ≡ true
+  own_other x d n h = ap (λ l. is_in l d) (sym (same.own x n)) ∙ h
+
+  apart_new : AreOwnApart new
+  apart_new d x y g h =
+      elim (cases_eq x key) [
+        | inl k ↦ elim (cases_eq y key) [
+          | inl l ↦ k ∙ sym l
+          | inr m ↦ absurd (unowned d y (own_key x d k g) (own_other y d m h))
+        ]
+        | inr n ↦ elim (cases_eq y key) [
+          | inl l ↦ absurd (unowned d x (own_key y d l h) (own_other x d n g))
+          | inr m ↦ kept.apart d x y (own_other x d n g) (own_other y d m h)
+        ]
+      ]
+
+  pub kept_added : IsKept new leaves (made + 1)
   kept_added = record {
     forest = record { shaped = shaped_new; young = young_new; up = up_new; down = down_new; older = older_new; placed = placed_new };
+    apart = apart_new;
     leaf_at = λ d x e.
-        elim (cases_Bool (is_in i.own d)) [
-          | inl now ↦
-              let k : key ≡ x = same_some (leaves' d) key x (leaf_new d now) e in
-              ap (own_at new) (sym k) ∙ (ap own_in here ∙ alone d now)
-          | inr off ↦
-              let own : own_at old x ≡ d ∷ [] = kept.leaf_at d x (sym (leaf_old d off) ∙ e) in
-              same.own x (own_off x d (ap (λ l. is_in l d) own ∙ one_in d)) ∙ own
-        ];
-    leaf_of = λ d x h.
+        let own : own_at old x ≡ d ∷ [] = kept.leaf_at d x e in
+        same.own x (own_off x d (ap (λ l. is_in l d) own ∙ one_in d)) ∙ own;
+    leaf_of = λ d x p h e.
         elim (cases_eq x key) [
-          | inl k ↦ leaf_new d (ap (λ o. is_in (own_in o) d) (sym (ap (item_at new) k ∙ here)) ∙ h) ∙ ap (λ y. Some y) (sym k)
-          | inr n ↦
-              let own : is_in (own_at old x) d ≡ true = ap (λ l. is_in l d) (sym (same.own x n)) ∙ h in
-              let e : leaves d ≡ Some x = kept.leaf_of d x own in
-              elim (cases_Bool (is_in i.own d)) [
-                | inl now ↦ absurd (none_some (leaves d) x (no_leaf d now) e)
-                | inr off ↦ leaf_old d off ∙ e
-              ]
+          | inl k ↦ absurd (none_some (parent_at new key) p parent_key (ap (parent_at new) (sym k) ∙ e))
+          | inr n ↦ elim (cases_Bool (is_on i.cycle x)) [
+            | inl on ↦ entered d x (own_other x d n h) on
+            | inr off ↦ kept.leaf_of d x p (own_other x d n h) (sym (parent_off x n off) ∙ e)
+          ]
         ];
   }
 
@@ -326,6 +347,9 @@ module _ (old new : List (Option Item)) (leaves : ℕ → Option ℕ) (made : �
   own_left : (x d : ℕ) → is_in (own_at new x) d ≡ true → x ≢ key
   own_left x d h e = both_ways (is_in (own_at new key) d) (ap (λ o. is_in (own_in o) d) here) (ap (λ y. is_in (own_at new y) d) (sym e) ∙ h)
 
+  own_before : (x d : ℕ) → is_in (own_at new x) d ≡ true → is_in (own_at old x) d ≡ true
+  own_before x d h = ap (λ l. is_in l d) (sym (left.own x (own_left x d h))) ∙ h
+
   shaped_left : (x : ℕ) → is_kept new x ≡ true → IsItem (own_at new x) (steps_at new x)
   shaped_left x h =
       let n : x ≢ key = kept_off x h in
@@ -359,10 +383,11 @@ module _ (old new : List (Option Item)) (leaves : ℕ → Option ℕ) (made : �
           omega (arith, kept.forest.older x p b.2);
       placed = placed_left;
     };
+    apart = λ d x y g h. kept.apart d x y (own_before x d g) (own_before y d h);
     leaf_at = λ d x e.
         let own : own_at old x ≡ d ∷ [] = kept.leaf_at d x e in
         left.own x (λ k. some (leaf_cycle old made kept.forest key d (ap (own_at old) (sym k) ∙ own))) ∙ own;
-    leaf_of = λ d x h. kept.leaf_of d x (ap (λ l. is_in l d) (sym (left.own x (own_left x d h))) ∙ h);
+    leaf_of = λ d x p h e. let b = before x p e in kept.leaf_of d x p (own_before x d h) b.2;
   }
 
   pub takes_off : TakesOff (nodes_of old) (nodes_of new) key

@@ -7,7 +7,6 @@ pub mod Moves
 pub mod Tails
 pub mod Rounds
 pub mod Sizes
-pub mod LeafMaps
 pub mod LegLists
 pub mod Turns
 pub mod SimplePaths

@@ -1,5 +1,5 @@
 -- What a store keeps when the nodes of another join it under new names.
-use Rattle.std.proofs.Common.{◌≡◌, inl, inr, ℕ, zero, suc, ◌+◌, ◌<◌, true, false, if◌then◌else◌, List, [], ◌∷◌, ◌++◌, length, Option, Some, None, is_some, option_map, refl, sym, ◌∙◌, ap, subst, arith}
+use Rattle.std.proofs.Common.{◌≡◌, inl, inr, ℕ, zero, suc, ◌+◌, ◌<◌, ◌&&◌, true, false, if◌then◌else◌, List, [], ◌∷◌, ◌++◌, length, Option, Some, None, is_some, option_map, refl, sym, ◌∙◌, ap, subst, arith}
 use Rattle.fb_links.specs.Lists.{is_in}
 use Rattle.fb_links.specs.Names.{name_by}
 use Rattle.std.specs.List.{flat_map}
@@ -8,12 +8,13 @@ use Rattle.std.proofs.lemmas.List.{length-map}
 use Rattle.fb_links.specs.declared.cycle.CycleStep.{CycleStep}
 use Rattle.fb_blossoms.specs.InternalItems.{Item}
 use Rattle.fb_blossoms.specs.Nodes.{Node, is_live, is_on, node_at}
-use Rattle.fb_blossoms.specs.InternalForest.{IsForest, IsItem, IsKept, IsPlaceOf, cycle_in, defects_in, held_at, is_kept, item_at, made_at, made_in, nodes_of, own_at, own_in, parent_at, parent_in, place_at, place_of, steps_at}
+use Rattle.fb_blossoms.specs.InternalForest.{AreOwnApart, IsForest, IsItem, IsKept, IsPlaceOf, cycle_in, defects_in, held_at, is_kept, item_at, made_at, made_in, nodes_of, own_at, own_in, parent_at, parent_in, place_at, place_of, steps_at}
 use Rattle.fb_blossoms.specs.Merged.{AreLeavesApart, IsMerged, renamed_cycle, renamed_node, renamed_step}
-use Rattle.fb_blossoms.specs.InternalMerged.{AreJoined, AreListed, AreOwnApart, shifted_item, renamed_item}
+use Rattle.fb_blossoms.specs.InternalMerged.{AreJoined, shifted_item, renamed_item}
+use Rattle.fb_blossoms.specs.InternalLeaves.{HasLeaves, IsGrown, is_taken_child}
 use Rattle.fb_blossoms.proofs.Climbs.{kept_child, kept_parent, none_some, same_some}
 use Rattle.fb_blossoms.proofs.Held.{levels_agree, live_from, same_levels}
-use Rattle.fb_blossoms.proofs.Nested.{is_in-one, leaf_node, one_in}
+use Rattle.fb_blossoms.proofs.Nested.{leaf_node, one_in, own_alone, own_kept}
 use Rattle.fb_blossoms.proofs.Changes.{node_unless, node_when}
 use Rattle.fb_blossoms.proofs.Renamings.{along_renamed, item_renamed, node_renamed, on_from, on_to}
 
@@ -235,13 +236,6 @@ module _ (old right new : List (Option Item)) (more made : ℕ) (links names : L
   -- the leaves of both are the leaves of the new store
   module _ (leaves others leaves' : ℕ → Option ℕ) (kept : IsKept old leaves more) (kept' : IsKept right others made)
       (parted : AreLeavesApart (nodes_of old) (nodes_of right)) where
-    own_kept : (slots : List (Option Item)) (x d : ℕ) → is_in (own_at slots x) d ≡ true → is_kept slots x ≡ true
-    own_kept slots x d h = at (item_at slots x) h
-      where
-        at : (o : Option Item) → is_in (own_in o) d ≡ true → is_some o ≡ true
-        at None h = h
-        at (Some i) h = refl
-
     own_left : (x d : ℕ) → is_kept old x ≡ true → is_in (own_at new x) d ≡ true → is_in (own_at old x) d ≡ true
     own_left x d k h = ap (λ o. is_in (own_in o) d) (sym (joined.stays x k)) ∙ h
 
@@ -250,44 +244,45 @@ module _ (old right new : List (Option Item)) (more made : ℕ) (links names : L
 
     crossed : (x a d : ℕ) → is_in (own_at old x) d ≡ true → is_in (own_at right a) d ≡ true → ⊥
     crossed x a d h k =
-        parted d x a (leaf_node old more first x d (kept.leaf_at d x (kept.leaf_of d x h))) (leaf_node right made second a d (kept'.leaf_at d a (kept'.leaf_of d a k)))
+        parted d x a (leaf_node old more first x d (own_alone old more first x d h)) (leaf_node right made second a d (own_alone right made second a d k))
+
+    new_kept : (x d : ℕ) → is_in (own_at new x) d ≡ true → is_kept new x ≡ true
+    new_kept x d h = own_kept new (more + made) forest_new x d h
 
     pub own_apart : AreOwnApart new
     own_apart d x y h k =
         each (λ x. (y : ℕ) → is_in (own_at new x) d ≡ true → is_in (own_at new y) d ≡ true → x ≡ y)
         (λ x i y h k.
         each (λ y. is_in (own_at new y) d ≡ true → x ≡ y)
-        (λ y j k. same_some (leaves d) x y (kept.leaf_of d x (own_left x d i h)) (kept.leaf_of d y (own_left y d j k)))
+        (λ y j k. kept.apart d x y (own_left x d i h) (own_left y d j k))
         (λ b j k. absurd (crossed x b d (own_left x d i h) (own_other b d j k)))
-        y (own_kept new y d k) k)
+        y (new_kept y d k) k)
         (λ a i y h k.
         each (λ y. is_in (own_at new y) d ≡ true → F a ≡ y)
         (λ y j k. absurd (crossed y a d (own_left y d j k) (own_other a d i h)))
-        (λ b j k. ap F (same_some (others d) a b (kept'.leaf_of d a (own_other a d i h)) (kept'.leaf_of d b (own_other b d j k))))
-        y (own_kept new y d k) k)
-        x (own_kept new x d h) y h k
+        (λ b j k. ap F (kept'.apart d a b (own_other a d i h) (own_other b d j k)))
+        y (new_kept y d k) k)
+        x (new_kept x d h) y h k
 
-    alone : (own : List ℕ) (c : List CycleStep) (d : ℕ) → IsItem own c → is_in own d ≡ true → own ≡ d ∷ []
-    alone own c d (inl l) h = l.alone ∙ ap (λ y. y ∷ []) (is_in-one l.defect d (ap (λ o. is_in o d) (sym l.alone) ∙ h))
-    alone own c d (inr b) h = absurd (both_ways false refl (ap (λ o. is_in o d) (sym b.bare) ∙ h))
-
-    pub kept_merged : AreListed new leaves leaves' names → IsKept new leaves' (more + made)
-    kept_merged listed = record {
+    pub kept_merged : IsGrown new leaves leaves' → HasLeaves new leaves' (is_taken_child new names) → IsKept new leaves' (more + made)
+    kept_merged grown has = record {
       forest = forest_new;
+      apart = own_apart;
       leaf_at = λ d x e.
-          elim (listed.known d x e) [
+          elim (grown.known d x e) [
             | inl before ↦
                 let own : own_at old x ≡ d ∷ [] = kept.leaf_at d x before in
-                ap own_in (joined.stays x (own_kept old x d (ap (λ o. is_in o d) own ∙ one_in d))) ∙ own
-            | inr now ↦ alone (own_at new x) (steps_at new x) d (shaped_new x (own_kept new x d now)) now
+                ap own_in (joined.stays x (own_kept old more first x d (ap (λ o. is_in o d) own ∙ one_in d))) ∙ own
+            | inr now ↦ own_alone new (more + made) forest_new x d now
           ];
-      leaf_of = λ d x h.
-          each (λ x. is_in (own_at new x) d ≡ true → leaves' d ≡ Some x)
-          (λ x k h. listed.listed d x h (inl (kept.leaf_of d x (own_left x d k h))))
-          (λ a k h. listed.listed d (F a) h (inr (joined.named a k)))
-          x (own_kept new x d h) h;
+      leaf_of = λ d x p h e.
+          each (λ x. is_in (own_at new x) d ≡ true → parent_at new x ≡ Some p → leaves' d ≡ Some x)
+          (λ x k h e. grown.stays d x h (kept.leaf_of d x p (own_left x d k h) (ap parent_in (sym (joined.stays x k)) ∙ e)))
+          (λ a k h e. has d (F a) h (ap (λ b. b && is_some (parent_at new (F a))) (joined.named a k) ∙ ap (λ (o : Option ℕ). is_some o) e))
+          x (new_kept x d h) h e;
     }
 
 -- the same of a list that equals the pairs
-pub listed_by : (slots : List (Option Item)) (old new : ℕ → Option ℕ) (seen names : List (ℕ × ℕ)) → seen ≡ names → AreListed slots old new seen → AreListed slots old new names
-listed_by slots old new seen names same listed = let P : List (ℕ × ℕ) → Type 0 = λ l. AreListed slots old new l in subst P same listed
+pub taken_by : (slots : List (Option Item)) (index : ℕ → Option ℕ) (seen names : List (ℕ × ℕ)) → seen ≡ names
+    → HasLeaves slots index (is_taken_child slots seen) → HasLeaves slots index (is_taken_child slots names)
+taken_by slots index seen names same has = let P : List (ℕ × ℕ) → Type 0 = λ l. HasLeaves slots index (is_taken_child slots l) in subst P same has

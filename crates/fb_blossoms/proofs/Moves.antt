@@ -1,14 +1,15 @@
 -- What the calls that add and take off nodes do to the store.
-use Rattle.std.proofs.Common.{◌≡◌, ◌≢◌, inl, inr, ℕ, ◌+◌, Bool, true, false, if◌then◌else◌, List, [], ◌∷◌, nat_eq, Option, Some, None, option_map, refl, sym, ◌∙◌, ap, subst}
-use Rattle.std.proofs.lemmas.Bool.{both_ways, ne_eqb}
+use Rattle.std.proofs.Common.{◌≡◌, ◌≢◌, inl, inr, ℕ, ◌+◌, Bool, true, false, if◌then◌else◌, List, [], ◌∷◌, Option, Some, None, option_map, refl, sym, ◌∙◌, ap, subst}
+use Rattle.std.proofs.lemmas.Bool.{both_ways}
 use Rattle.slab.specs.Slab.{Slab, Updates, get}
 use Rattle.fb_links.specs.Lists.{is_in}
 use Rattle.fb_links.specs.declared.cycle.CycleStep.{CycleStep}
 use Rattle.fb_blossoms.specs.InternalItems.{Item}
 use Rattle.fb_blossoms.specs.Nodes.{Adds, AreOuter, IsOddCycle, IsOuter, Node, TakesOff, blossom, cycle_at, is_on, leaf, node_at}
-use Rattle.fb_blossoms.specs.InternalForest.{IsItem, IsKept, cycle_in, item_at, is_kept, last_place, nodes_of, parent_at, reparented_item, steps_at, with_parent}
+use Rattle.fb_blossoms.specs.InternalForest.{IsItem, IsKept, cycle_in, item_at, is_kept, last_place, nodes_of, own_at, parent_at, reparented_item, steps_at, with_parent}
+use Rattle.fb_blossoms.specs.InternalLeaves.{HasLeaves}
 use Rattle.fb_blossoms.proofs.Held.{cycle_from, live_from}
-use Rattle.fb_blossoms.proofs.Nested.{is_in-one, leaf_node, one_in, outer_from}
+use Rattle.fb_blossoms.proofs.Nested.{is_in-one, leaf_node, outer_from, own_alone}
 use Rattle.fb_blossoms.proofs.Changes.{adds, kept_added, kept_left, node_added, takes_off}
 
 abbrev pub new_blossom : ℕ → List CycleStep → Item
@@ -23,7 +24,8 @@ adds_as old new key n m h e = let P : Node → Type 0 = λ k. Adds old new key k
 module _ (old mid new : Slab Item) (leaves : ℕ → Option ℕ) (made : ℕ) (kept : IsKept old.slots leaves made) (key : ℕ) (cycle : List CycleStep)
     (vacant : get old key ≡ None) (moved : (x : ℕ) → get mid x ≡ reparented_item cycle (Some key) x (get old x))
     (updates : Updates mid new key (Some (new_blossom made cycle)))
-    (odd : IsOddCycle (nodes_of old.slots) cycle) (outer : AreOuter (nodes_of old.slots) cycle) where
+    (odd : IsOddCycle (nodes_of old.slots) cycle) (outer : AreOuter (nodes_of old.slots) cycle)
+    (entered : HasLeaves old.slots leaves (is_on cycle)) where
   live : (x : ℕ) → is_on cycle x ≡ true → is_kept old.slots x ≡ true
   live x on = sym (live_from old.slots x) ∙ odd.live x on
 
@@ -36,43 +38,28 @@ module _ (old mid new : Slab Item) (leaves : ℕ → Option ℕ) (made : ℕ) (k
   shaped : IsItem [] cycle
   shaped = inr (record { bare = refl; odd = odd.odd; three = odd.three; distinct = odd.distinct })
 
-  bare : (X : ℕ → Type 0) (d : ℕ) → is_in [] d ≡ true → X d
-  bare X d h = absurd (both_ways false refl h)
+  unowned : (d x : ℕ) → is_in [] d ≡ true → is_in (own_at old.slots x) d ≡ true → ⊥
+  unowned d x h = absurd (both_ways false refl h)
 
   pub formed : IsKept new.slots leaves (made + 1)
   formed =
-      kept_added old.slots new.slots leaves leaves made kept key (new_blossom made cycle) vacant updates.changed refl refl others live top shaped
-      (bare (λ d. leaves d ≡ Some key)) (λ d h. refl) (bare (λ d. leaves d ≡ None)) (bare (λ d. [] ≡ d ∷ []))
+      kept_added old.slots new.slots leaves made kept key (new_blossom made cycle) vacant updates.changed refl refl others live top shaped unowned entered
 
   pub forms : Adds (nodes_of old.slots) (nodes_of new.slots) key (blossom (nodes_of old.slots) cycle)
   forms =
       adds_as _ _ key _ _
-      (adds old.slots new.slots leaves leaves made kept key (new_blossom made cycle) vacant updates.changed refl refl others live top shaped
-      (bare (λ d. leaves d ≡ Some key)) (λ d h. refl) (bare (λ d. leaves d ≡ None)) (bare (λ d. [] ≡ d ∷ [])))
-      (node_added old.slots new.slots leaves leaves made kept key (new_blossom made cycle) vacant updates.changed refl refl others live top shaped
-      (bare (λ d. leaves d ≡ Some key)) (λ d h. refl) (bare (λ d. leaves d ≡ None)) (bare (λ d. [] ≡ d ∷ []))
+      (adds old.slots new.slots leaves made kept key (new_blossom made cycle) vacant updates.changed refl refl others live top shaped unowned entered)
+      (node_added old.slots new.slots leaves made kept key (new_blossom made cycle) vacant updates.changed refl refl others live top shaped unowned entered
       (record { bare = refl; odd = odd.odd; three = odd.three; distinct = odd.distinct }))
 
--- the map has the node for the defect now, and for each other defect what it had
-module _ (old new : Slab Item) (leaves leaves' : ℕ → Option ℕ) (made : ℕ) (kept : IsKept old.slots leaves made) (key d : ℕ)
+-- a leaf is added of a defect that is in no node
+module _ (old new : Slab Item) (leaves : ℕ → Option ℕ) (made : ℕ) (kept : IsKept old.slots leaves made) (key d : ℕ)
     (vacant : get old key ≡ None) (updates : Updates old new key (Some (new_leaf made d)))
-    (changed : leaves' d ≡ Some key) (others : (e : ℕ) → nat_eq d e ≡ false → leaves' e ≡ leaves e)
     (unused : (x : ℕ) → node_at (nodes_of old.slots) x ≢ Some (leaf d)) where
-  its : (e : ℕ) → is_in (d ∷ []) e ≡ true → leaves' e ≡ Some key
-  its e h = ap leaves' (sym (is_in-one d e h)) ∙ changed
-
-  not_its : (e : ℕ) → is_in (d ∷ []) e ≡ false → leaves' e ≡ leaves e
-  not_its e h = others e (ne_eqb d e (λ same. both_ways (is_in (d ∷ []) e) h (ap (is_in (d ∷ [])) (sym same) ∙ one_in d)))
-
-  none_yet : (e : ℕ) → is_in (d ∷ []) e ≡ true → leaves e ≡ None
-  none_yet e h = ap leaves (sym (is_in-one d e h)) ∙ at (leaves d) refl
-    where
-      at : (o : Option ℕ) → leaves d ≡ o → leaves d ≡ None
-      at None f = f
-      at (Some x) f = absurd (unused x (leaf_node old.slots made kept.forest x d (kept.leaf_at d x f)))
-
-  alone : (e : ℕ) → is_in (d ∷ []) e ≡ true → d ∷ [] ≡ e ∷ []
-  alone e h = ap (λ y. y ∷ []) (is_in-one d e h)
+  not_owned : (e x : ℕ) → is_in (d ∷ []) e ≡ true → is_in (own_at old.slots x) e ≡ true → ⊥
+  not_owned e x h k =
+      let own : is_in (own_at old.slots x) d ≡ true = ap (λ y. is_in (own_at old.slots x) y) (is_in-one d e h) ∙ k in
+      unused x (leaf_node old.slots made kept.forest x d (own_alone old.slots made kept.forest x d own))
 
   shape : IsItem (d ∷ []) []
   shape = inl (record { defect = d; alone = refl; bare = refl })
@@ -80,15 +67,18 @@ module _ (old new : Slab Item) (leaves leaves' : ℕ → Option ℕ) (made : ℕ
   off : (X : ℕ → Type 0) (x : ℕ) → is_on [] x ≡ true → X x
   off X x h = absurd (both_ways false refl h)
 
-  pub leafed : IsKept new.slots leaves' (made + 1)
+  none_on : HasLeaves old.slots leaves (is_on [])
+  none_on e x own on = off (λ y. leaves e ≡ Some y) x on
+
+  pub leafed : IsKept new.slots leaves (made + 1)
   leafed =
-      kept_added old.slots new.slots leaves leaves' made kept key (new_leaf made d) vacant updates.changed refl refl updates.others
-      (off (λ x. is_kept old.slots x ≡ true)) (off (λ x. parent_at old.slots x ≡ None)) shape its not_its none_yet alone
+      kept_added old.slots new.slots leaves made kept key (new_leaf made d) vacant updates.changed refl refl updates.others
+      (off (λ x. is_kept old.slots x ≡ true)) (off (λ x. parent_at old.slots x ≡ None)) shape not_owned none_on
 
   pub leafs : Adds (nodes_of old.slots) (nodes_of new.slots) key (leaf d)
   leafs =
-      adds old.slots new.slots leaves leaves' made kept key (new_leaf made d) vacant updates.changed refl refl updates.others
-      (off (λ x. is_kept old.slots x ≡ true)) (off (λ x. parent_at old.slots x ≡ None)) shape its not_its none_yet alone
+      adds old.slots new.slots leaves made kept key (new_leaf made d) vacant updates.changed refl refl updates.others
+      (off (λ x. is_kept old.slots x ≡ true)) (off (λ x. parent_at old.slots x ≡ None)) shape not_owned none_on
 
 module _ (old mid new : Slab Item) (leaves : ℕ → Option ℕ) (made : ℕ) (kept : IsKept old.slots leaves made) (key : ℕ) (i : Item)
     (found : get old key ≡ Some i) (updates : Updates old mid key None)
@@ -140,3 +130,7 @@ updates_roomy old roomy new capacity key o e h = record {
 pub seen_from : (mid new : Slab Item) (seen cycle : List CycleStep) (q : Option ℕ) → seen ≡ cycle
     → ((x : ℕ) → get new x ≡ reparented_item seen q x (get mid x)) → (x : ℕ) → get new x ≡ reparented_item cycle q x (get mid x)
 seen_from mid new seen cycle q same h x = h x ∙ ap (λ c. reparented_item c q x (get mid x)) same
+
+pub entered_from : (slots : List (Option Item)) (index : ℕ → Option ℕ) (seen cycle : List CycleStep) → seen ≡ cycle → HasLeaves slots index (is_on seen)
+    → HasLeaves slots index (is_on cycle)
+entered_from slots index seen cycle same has = let P : List CycleStep → Type 0 = λ c. HasLeaves slots index (is_on c) in subst P same has

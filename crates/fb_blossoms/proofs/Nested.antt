@@ -9,7 +9,7 @@ use Rattle.fb_blossoms.specs.InternalItems.{Item}
 use Rattle.fb_blossoms.specs.Nodes.{IsBlossom, IsChildHolding, IsLeaf, IsNested, IsOuter, IsOuterOf, IsParent, Node, cycle_at, cycle_of, defects_along, defects_at, defects_of, is_on, leaf, node_at}
 use Rattle.fb_blossoms.specs.InternalForest.{Climbs, IsChildOver, IsForest, IsItem, IsKept, IsLeafItem, IsOddItem, IsPlaceOf, IsTopOf, LeadsDownTo, cycle_in, defects_in, held_at, is_kept, item_at, made_at, made_in, node_of, nodes_of, own_at, own_in, parent_at, place_at, steps_at}
 use Rattle.fb_blossoms.specs.InternalWays.{LeadsDown}
-use Rattle.fb_blossoms.proofs.Climbs.{kept_child, none_some, same_child, same_some, same_top}
+use Rattle.fb_blossoms.proofs.Climbs.{climb_more, kept_child, none_some, same_child, same_some, same_top}
 use Rattle.fb_blossoms.proofs.Held.{along_same, cycle_from, held_along, held_from, holds_climbing, holds_some, leaf_below, live_from, node_from}
 
 -- a number in a list of one is that one
@@ -130,6 +130,21 @@ module _ (slots : List (Option Item)) (made : ℕ) (forest : IsForest slots made
             | inr b ↦ let g : d ∷ [] ≡ [] = sym e ∙ b.bare in absurd (cc)
           ]
 
+  -- who has a defect of its own is a leaf
+  pub own_kept : (x d : ℕ) → is_in (own_at slots x) d ≡ true → is_kept slots x ≡ true
+  own_kept x d h = at (item_at slots x) h
+    where
+      at : (o : Option Item) → is_in (own_in o) d ≡ true → is_some o ≡ true
+      at None h = h
+      at (Some i) h = refl
+
+  pub own_alone : (x d : ℕ) → is_in (own_at slots x) d ≡ true → own_at slots x ≡ d ∷ []
+  own_alone x d h = at (own_at slots x) (steps_at slots x) (forest.shaped x (own_kept x d h)) h
+    where
+      at : (own : List ℕ) (c : List CycleStep) → IsItem own c → is_in own d ≡ true → own ≡ d ∷ []
+      at own c (inl l) h = l.alone ∙ ap (λ y. y ∷ []) (is_in-one l.defect d (ap (λ o. is_in o d) (sym l.alone) ∙ h))
+      at own c (inr b) h = absurd (both_ways false refl (ap (λ o. is_in o d) (sym b.bare) ∙ h))
+
   -- a leaf holds its defect
   pub own_held : (x d : ℕ) → own_at slots x ≡ d ∷ [] → is_in (held_at slots x) d ≡ true
   own_held x d e = ap (λ l. is_in (l ++ flat_map (λ s. defects_in slots (made_at slots x) s.node) (steps_at slots x)) d) e ∙ first
@@ -158,18 +173,19 @@ module _ (slots : List (Option Item)) (made : ℕ) (forest : IsForest slots made
 module _ (slots : List (Option Item)) (leaves : ℕ → Option ℕ) (made : ℕ) (kept : IsKept slots leaves made) where
   -- the leaf of a defect that a node holds is below the node
   pub leaf_climbs : (x d : ℕ) → is_in (defects_at (nodes_of slots) x) d ≡ true
-      → (l : ℕ) × (leaves d ≡ Some l) × ((k : ℕ) × Climbs slots k l x)
-  leaf_climbs x d h =
-      let r : (l : ℕ) × (is_in (own_at slots l) d ≡ true) × ((j : ℕ) × Climbs slots j l x) =
-      leaf_below slots made kept.forest (suc (made_at slots x)) x d (holds_from slots made kept.forest x d h) in
-      (r.0, kept.leaf_of d r.0 r.1, r.2)
+      → (l : ℕ) × (is_in (own_at slots l) d ≡ true) × ((k : ℕ) × Climbs slots k l x)
+  leaf_climbs x d h = leaf_below slots made kept.forest (suc (made_at slots x)) x d (holds_from slots made kept.forest x d h)
+
+  -- the leaf that the index has for a defect is the one that has it
+  pub same_leaf : (d l x : ℕ) → leaves d ≡ Some l → is_in (own_at slots x) d ≡ true → x ≡ l
+  same_leaf d l x e h = kept.apart d x l h (ap (λ o. is_in o d) (kept.leaf_at d l e) ∙ one_in d)
 
   both : (x y d : ℕ) → is_in (defects_at (nodes_of slots) x) d ≡ true → is_in (defects_at (nodes_of slots) y) d ≡ true
       → (l : ℕ) × ((i : ℕ) × Climbs slots i l x) × ((j : ℕ) × Climbs slots j l y)
   both x y d g h =
       let a = leaf_climbs x d g in
       let b = leaf_climbs y d h in
-      let same : a.0 ≡ b.0 = same_some (leaves d) a.0 b.0 a.1 b.1 in
+      let same : a.0 ≡ b.0 = kept.apart d a.0 b.0 a.1 b.1 in
       let P : ℕ → Type 0 = λ l. (j : ℕ) × Climbs slots j l y in
       (a.0, a.2, subst P (sym same) b.2)
 
@@ -180,7 +196,7 @@ module _ (slots : List (Option Item)) (leaves : ℕ → Option ℕ) (made : ℕ)
         let r = holds_some slots made kept.forest (suc (made_at slots x)) x (sym (live_from slots x) ∙ live) (omega arith) in
         both_ways false refl (ap (λ l. is_in l r.0) (sym none ∙ held_from slots x) ∙ r.1);
     once = λ p q x a b. same_some (parent_at slots x) p q (child_from slots made kept.forest p x a) (child_from slots made kept.forest q x b);
-    leaves = λ x y d a b. same_some (leaves d) x y (kept.leaf_of d x (own_from slots made kept.forest x d a)) (kept.leaf_of d y (own_from slots made kept.forest y d b));
+    leaves = λ x y d a b. kept.apart d x y (own_from slots made kept.forest x d a) (own_from slots made kept.forest y d b);
     children = λ p x y d a b g h.
         let r = both x y d g h in
         same_child slots made kept.forest r.1.0 r.2.0 r.0 x y p r.1.1 r.2.1 (child_from slots made kept.forest p x a) (child_from slots made kept.forest p y b);
@@ -189,21 +205,42 @@ module _ (slots : List (Option Item)) (leaves : ℕ → Option ℕ) (made : ℕ)
         same_top slots made kept.forest r.1.0 r.2.0 r.0 x y r.1.1 r.2.1 (outer_from slots made kept.forest x a) (outer_from slots made kept.forest y b);
   }
 
-  -- a blossom is above the leaf of each defect that it holds
+  -- a blossom is above the leaf of each defect that it holds, and the index has that leaf
+  pub leaf_inside : (x d : ℕ) → is_in (defects_at (nodes_of slots) x) d ≡ true → (cycle_at (nodes_of slots) x ≡ [] → ⊥)
+      → (l : ℕ) × (leaves d ≡ Some l) × ((k : ℕ) × Climbs slots (suc k) l x)
+  leaf_inside x d h some =
+      let r = leaf_climbs x d h in
+      at r.0 r.1 r.2.0 r.2.1
+    where
+      at : (l : ℕ) → is_in (own_at slots l) d ≡ true → (k : ℕ) → Climbs slots k l x → (m : ℕ) × (leaves d ≡ Some m) × ((j : ℕ) × Climbs slots (suc j) m x)
+      at l own zero c =
+          absurd (some (cycle_from slots x ∙ (ap (steps_at slots) (sym c) ∙ leaf_cycle slots made kept.forest l d (own_alone slots made kept.forest l d own))))
+      at l own (suc j) c = (l, kept.leaf_of d l c.0 own c.1, (j, c))
+
   pub strictly_below : (x d l : ℕ) → is_in (defects_at (nodes_of slots) x) d ≡ true → (cycle_at (nodes_of slots) x ≡ [] → ⊥)
       → leaves d ≡ Some l → (k : ℕ) × Climbs slots (suc k) l x
   strictly_below x d l h some e =
-      let r = leaf_climbs x d h in
-      let same : r.0 ≡ l = same_some (leaves d) r.0 l r.1 e in
-      let P : ℕ → Type 0 = λ y. Climbs slots r.2.0 y x in
-      at r.2.0 (subst P same r.2.1)
-    where
-      cycle_none : steps_at slots l ≡ []
-      cycle_none = leaf_cycle slots made kept.forest l d (kept.leaf_at d l e)
+      let r = leaf_inside x d h some in
+      let P : ℕ → Type 0 = λ y. (k : ℕ) × Climbs slots (suc k) y x in
+      subst P (same_some (leaves d) r.0 l r.1 e) r.2
 
-      at : (k : ℕ) → Climbs slots k l x → (j : ℕ) × Climbs slots (suc j) l x
-      at zero c = absurd (some (cycle_from slots x ∙ (ap (steps_at slots) (sym c) ∙ cycle_none)))
-      at (suc j) c = (j, c)
+  -- the index has the leaf of each defect of a child
+  pub leaf_under : (p x d : ℕ) → is_on (cycle_at (nodes_of slots) p) x ≡ true → is_in (defects_at (nodes_of slots) x) d ≡ true
+      → (l : ℕ) × (leaves d ≡ Some l)
+  leaf_under p x d on h =
+      let r = leaf_climbs x d h in
+      let up = climb_more slots r.2.0 r.0 x p r.2.1 (child_from slots made kept.forest p x on) in
+      (r.0, kept.leaf_of d r.0 up.0 r.1 up.1)
+
+  -- a node whose defect the index does not have is the leaf of that defect
+  pub leaf_itself : (x d : ℕ) → is_in (defects_at (nodes_of slots) x) d ≡ true → leaves d ≡ None → node_at (nodes_of slots) x ≡ Some (leaf d)
+  leaf_itself x d h e =
+      let r = leaf_climbs x d h in
+      at r.0 r.1 r.2.0 r.2.1
+    where
+      at : (l : ℕ) → is_in (own_at slots l) d ≡ true → (k : ℕ) → Climbs slots k l x → node_at (nodes_of slots) x ≡ Some (leaf d)
+      at l own zero c = leaf_node slots made kept.forest x d (ap (own_at slots) (sym c) ∙ own_alone slots made kept.forest l d own)
+      at l own (suc j) c = absurd (none_some (leaves d) l e (kept.leaf_of d l c.0 own c.1))
 
   pub child_round : (x d l child : ℕ) → leaves d ≡ Some l → IsChildOver slots x l child
       → IsChildHolding (nodes_of slots) x d child
@@ -216,7 +253,7 @@ module _ (slots : List (Option Item)) (leaves : ℕ → Option ℕ) (made : ℕ)
   climbs_from x d l h e =
       let r = leaf_climbs x d h in
       let P : ℕ → Type 0 = λ y. (k : ℕ) × Climbs slots k y x in
-      subst P (same_some (leaves d) r.0 l r.1 e) r.2
+      subst P (same_leaf d l r.0 e r.1) r.2
 
   -- the way down to a leaf
   pub way_down : (x l d : ℕ) (way : List ℕ) → own_at slots l ≡ d ∷ [] → LeadsDownTo slots x l way → LeadsDown (nodes_of slots) x d way

@@ -90,11 +90,16 @@ pub record IsForest (slots : List (Option Item)) (made : ℕ) : Type 0 where
   -- it is at its place there
   pub placed : (x p : ℕ) → parent_at slots x ≡ Some p → IsPlaceOf (steps_at slots p) x (place_at slots x)
 
--- the map has the leaf of each defect
-pub record IsKept (slots : List (Option Item)) (leaf_named : ℕ → Option ℕ) (made : ℕ) : Type 0 where
+-- no defect is an item's own twice
+abbrev pub AreOwnApart : List (Option Item) → Type 0
+AreOwnApart slots = (d x y : ℕ) → is_in (own_at slots x) d ≡ true → is_in (own_at slots y) d ≡ true → x ≡ y
+
+-- the index leads to the leaves of defects, and has each leaf that is in a blossom
+pub record IsKept (slots : List (Option Item)) (index : ℕ → Option ℕ) (made : ℕ) : Type 0 where
   pub forest : IsForest slots made
-  pub leaf_at : (d x : ℕ) → leaf_named d ≡ Some x → own_at slots x ≡ d ∷ []
-  pub leaf_of : (d x : ℕ) → is_in (own_at slots x) d ≡ true → leaf_named d ≡ Some x
+  pub apart : AreOwnApart slots
+  pub leaf_at : (d x : ℕ) → index d ≡ Some x → own_at slots x ≡ d ∷ []
+  pub leaf_of : (d x p : ℕ) → is_in (own_at slots x) d ≡ true → parent_at slots x ≡ Some p → index d ≡ Some x
 
 -- the last place of a node in a cycle; 0 if it is not there
 abbrev pub last_place : List CycleStep → ℕ → ℕ

@@ -1,11 +1,10 @@
 -- Items under other names.
 use Rattle.std.specs.Prelude.{ℕ, ◌≡◌, ◌+◌, ◌≤◌, ◌==◌, ◌⊎◌, Bool, true, false, if◌then◌else◌, List, [], ◌∷◌, ◌++◌, length, nat_lt, Option, Some, None, option_map}
 use Rattle.std.specs.List.{list_any}
-use Rattle.fb_links.specs.Lists.{is_in}
 use Rattle.fb_blossoms.specs.InternalItems.{Item}
 use Rattle.fb_links.specs.Names.{name_by}
 use Rattle.slab.specs.Slab.{Slab, Updates, get}
-use Rattle.fb_blossoms.specs.InternalForest.{is_kept, item_at, own_at}
+use Rattle.fb_blossoms.specs.InternalForest.{is_kept, item_at}
 use Rattle.fb_blossoms.specs.Merged.{new_count, old_count, renamed_cycle}
 
 -- the item as if `more` further nodes had been made before it
@@ -42,16 +41,6 @@ abbrev pub IsStepOver : Slab Item → Slab Item → List (ℕ × ℕ) → List (
 IsStepOver old new names names' key more None = (new ≡ old) × (names' ≡ names)
 IsStepOver old new names names' key more (Some i) =
     (b : ℕ) × (names' ≡ names ++ (key, b) ∷ []) × (get old b ≡ None) × Updates old new b (Some (shifted_item more i))
-
--- no defect is an item's own twice
-abbrev pub AreOwnApart : List (Option Item) → Type 0
-AreOwnApart slots = (d x y : ℕ) → is_in (own_at slots x) d ≡ true → is_in (own_at slots y) d ≡ true → x ≡ y
-
--- the new list has the leaves of the old one, and of the pairs' new numbers
-pub record AreListed (slots : List (Option Item)) (old new : ℕ → Option ℕ) (names : List (ℕ × ℕ)) : Type 0 where
-  pub known : (d x : ℕ) → new d ≡ Some x → (old d ≡ Some x) ⊎ (is_in (own_at slots x) d ≡ true)
-  pub listed : (d x : ℕ) → is_in (own_at slots x) d ≡ true
-      → (old d ≡ Some x) ⊎ (list_any (λ p. p.1 == x) names ≡ true) → new d ≡ Some x
 
 -- the right one's items are in free slots of the left one's table, under the names of the list
 pub record AreJoined (old right new : List (Option Item)) (more : ℕ) (links names : List (ℕ × ℕ)) : Type 0 where

@@ -1,5 +1,6 @@
 pub mod InternalForest
 pub mod InternalItems
+pub mod InternalLeaves
 pub mod InternalLegs
 pub mod InternalMerged
 pub mod InternalShapes

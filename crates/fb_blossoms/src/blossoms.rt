@@ -11,12 +11,12 @@ ghost use Rattle.fb_blossoms.specs.InternalWays.{LeadsDown};
 
 use crate::entry::Entry;
 use crate::forest::{child_over, cycle_of, parent_of, place_of, put_under, top_of, way_down};
-use crate::joining::{join_nodes, list_all};
+use crate::joining::join_nodes;
+use crate::leaves::{Leaves, enter_children, enter_taken, leaf_of};
 use crate::legs::{Nest, even_path};
 use crate::{CycleStep, LinkId, Links, NoMemory, NodeId};
 use slab::Slab;
 use std::alloc::Global;
-use std::collections::BTreeMap;
 use std::marker::Model;
 
 /// A store of nodes. A leaf is one defect; a blossom is an odd cycle of nodes, its children, with the links between
@@ -25,8 +25,8 @@ use std::marker::Model;
 #[derive(Drop)]
 pub struct Blossoms {
     nodes: Slab<Entry>,
-    /// The leaf of each defect.
-    leaves: BTreeMap<u32, NodeId>,
+    /// The leaf of each defect in a blossom; perhaps those of others too.
+    leaves: Leaves,
     /// The number of nodes made so far.
     made: u64,
 }
@@ -54,7 +54,7 @@ impl Blossoms {
     {
         Ok(Blossoms {
             nodes: Slab::new(alloc),
-            leaves: BTreeMap::new(alloc),
+            leaves: Leaves::new(alloc),
             made: 0,
         })
     }
@@ -90,7 +90,6 @@ impl Blossoms {
         };
         self.nodes.reserve(1)?;
         let node = self.nodes.vacant_key() as NodeId;
-        self.leaves.insert(defect, node)?;
         self.nodes.insert_reserved(Entry::leaf(self.made, defect));
         self.made = made;
         Ok(node)
@@ -113,6 +112,7 @@ impl Blossoms {
         let Some(made) = self.made.checked_add(1) else {
             return Err(NoMemory);
         };
+        enter_children(&self.nodes, &mut self.leaves, &cycle)?;
         self.nodes.reserve(1)?;
         let node = self.nodes.vacant_key() as NodeId;
         put_under(&mut self.nodes, &cycle, Some(node));
@@ -175,7 +175,7 @@ impl Blossoms {
             return Err(NoMemory);
         };
         let pairs = join_nodes(alloc, &mut nodes, &mut others, before, links)?;
-        list_all(&nodes, &mut leaves, &pairs)?;
+        enter_taken(&nodes, &mut leaves, &pairs)?;
         let both = Blossoms {
             nodes,
             leaves,
@@ -205,10 +205,10 @@ impl Blossoms {
         child_over(&self.nodes, self.made, node, leaf)
     }
 
-    /// The leaf of the defect; `None` if no node holds it.
+    /// The leaf of the defect, if it is in a blossom. `None` is returned only if no child of a blossom holds the defect.
     pub fn leaf_of(&self, defect: u32) -> Option<NodeId>
         ensures leaf { IfSome result (λ x. node_at self.now x ≡ Some (leaf defect)) }
-        ensures none { IfNone result ((x : ℕ) → is_in (defects_at self.now x) defect ≡ false) }
+        ensures none { IfNone result ((p x : ℕ) → is_on (cycle_at self.now p) x ≡ true → is_in (defects_at self.now x) defect ≡ false) }
     {
         leaf_of(&self.leaves, defect)
     }
@@ -270,14 +270,14 @@ impl Blossoms {
         ensures { IfOk result (λ way. LeadsDown self.now node defect (reverse way.items)) }
     {
         let Some(leaf) = leaf_of(&self.leaves, defect) else {
-            unreachable!()
+            return Ok(Vec::new(alloc));
         };
         way_down(alloc, &self.nodes, self.made, node, leaf)
     }
 }
 
 /// The store without nodes, in the room of these pieces.
-fn emptied(mut nodes: Slab<Entry>, mut leaves: BTreeMap<u32, NodeId>) -> Blossoms
+fn emptied(mut nodes: Slab<Entry>, mut leaves: Leaves) -> Blossoms
     ensures { result ≡ [] }
 {
     nodes.clear();
@@ -287,11 +287,4 @@ fn emptied(mut nodes: Slab<Entry>, mut leaves: BTreeMap<u32, NodeId>) -> Blossom
         leaves,
         made: 0,
     }
-}
-
-/// The leaf of the defect.
-fn leaf_of(leaves: &BTreeMap<u32, NodeId>, defect: u32) -> Option<NodeId>
-    ensures { result ≡ get nat_cmp leaves.now defect }
-{
-    leaves.get(&defect).copied()
 }

@@ -1,21 +1,17 @@
 //! How the nodes of one store are put into another.
 
-ghost use Rattle.fb_links.specs.Lists.{is_in};
 ghost use Rattle.fb_links.specs.Names.{name_by};
-ghost use Rattle.std.specs.Prelude.{◌≡◌, ◌≢◌, ◌==◌, ◌+◌, ◌<◌, ◌≤◌, ◌^◌, ◌++◌, ◌∷◌, [], ℕ, Some, IfOk, OnOk, if◌then◌else◌, option_map};
-ghost use Rattle.std.specs.Ordering.{nat_cmp};
-ghost use Rattle.std.specs.BTreeMap.{get as found};
+ghost use Rattle.std.specs.Prelude.{◌≡◌, ◌≢◌, ◌==◌, ◌+◌, ◌<◌, ◌≤◌, ◌^◌, ◌++◌, ◌∷◌, [], ℕ, IfOk, OnOk, if◌then◌else◌, option_map};
 ghost use Rattle.slab.specs.Slab.{get};
-ghost use Rattle.fb_blossoms.specs.InternalForest.{made_in, own_in};
+ghost use Rattle.fb_blossoms.specs.InternalForest.{made_in};
 ghost use Rattle.fb_blossoms.specs.Merged.{new_count};
-ghost use Rattle.fb_blossoms.specs.InternalMerged.{AreAllTaken, AreJoined, AreListed, AreOwnApart, IsStepOver, renamed_among, renamed_item};
+ghost use Rattle.fb_blossoms.specs.InternalMerged.{AreAllTaken, AreJoined, IsStepOver, renamed_among, renamed_item};
 
 use crate::entry::Entry;
 use crate::{LinkId, NoMemory, NodeId};
 use fb_links::names::{Names, names_of};
 use slab::Slab;
 use std::alloc::Global;
-use std::collections::BTreeMap;
 
 /// The nodes of a store, each beside its new number.
 pub type Pairs = Vec<(NodeId, NodeId)>;
@@ -96,39 +92,6 @@ pub fn rename_all(
 {
     for k in 0..pairs.len() {
         rename_one(alloc, nodes, pairs[k].1, names, links)?;
-    }
-    Ok(())
-}
-
-/// Puts the node's defect, if it is a leaf, into the list of leaves.
-fn list_one(
-    nodes: &Slab<Entry>,
-    leaves: &mut BTreeMap<u32, NodeId>,
-    node: NodeId,
-) -> Result<(), NoMemory>
-    ensures { OnOk result ((d : ℕ) → found nat_cmp leaves.new d ≡ (if is_in (own_in (get nodes.now node)) d then Some node else found nat_cmp leaves.old d)) }
-{
-    let Some(entry) = nodes.get(node as usize) else {
-        return Ok(());
-    };
-    let Some(defect) = entry.own() else {
-        return Ok(());
-    };
-    leaves.insert(defect, node)?;
-    Ok(())
-}
-
-/// Puts the defects of the leaves that were taken into the list of leaves.
-pub fn list_all(
-    nodes: &Slab<Entry>,
-    leaves: &mut BTreeMap<u32, NodeId>,
-    pairs: &[(NodeId, NodeId)],
-) -> Result<(), NoMemory>
-    requires { AreOwnApart nodes.now.slots }
-    ensures { OnOk result (AreListed nodes.now.slots (found nat_cmp leaves.old) (found nat_cmp leaves.new) pairs.now) }
-{
-    for k in 0..pairs.len() {
-        list_one(nodes, leaves, pairs[k].1)?;
     }
     Ok(())
 }

@@ -8,6 +8,7 @@ mod entry;
 mod forest;
 mod joining;
 pub mod laws;
+mod leaves;
 mod legs;
 mod names;
 mod ways;
