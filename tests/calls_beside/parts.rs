@@ -223,12 +223,11 @@ impl<'a> Looking<'a> {
     }
 }
 
-/// Whether the defect is a node of the part, under an outer node that is matched.
+/// Whether the defect is in an outer node of the part that is matched.
 fn is_matched(half: &Half<'_>, defect: u32) -> bool {
-    let Some(leaf) = half.blossoms().leaf_of(defect) else {
+    let Some(outer) = half.regions().cover_of(defect) else {
         return false;
     };
-    let outer = half.blossoms().outer_of(leaf);
     matches!(half.matching().standing(outer), Standing::Matched(_))
 }
 

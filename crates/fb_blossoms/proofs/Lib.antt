@@ -3,6 +3,7 @@ pub mod Held
 pub mod Nested
 pub mod Seats
 pub mod Changes
+pub mod Children
 pub mod Moves
 pub mod Tails
 pub mod Rounds

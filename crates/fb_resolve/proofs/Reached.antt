@@ -1,38 +1,16 @@
 -- Closed marks that begin at the leaf of a defect are on all nodes that hold it.
-use Rattle.std.proofs.Common.{◌≡◌, ◌≢◌, inl, inr, ℕ, zero, suc, ◌+◌, ◌<◌, ◌≤◌, ◌==◌, ◌⊎◌, ◌||◌, Bool, true, false, List, [], ◌∷◌, ◌++◌, length, Option, Some, None, flat_map, refl, sym, ◌∙◌, ap, arith}
+use Rattle.std.proofs.Common.{◌≡◌, ◌≢◌, inl, inr, ℕ, zero, suc, ◌+◌, ◌<◌, ◌≤◌, ◌==◌, ◌||◌, Bool, true, false, List, [], ◌∷◌, ◌++◌, length, Option, Some, flat_map, refl, ◌∙◌, ap, arith}
 use Rattle.std.proofs.lemmas.Bool.{both_ways, eq-eqb, eqb-true, or_cases, or_left, or_right}
 use Rattle.std.proofs.lemmas.List.{length-append}
 use Rattle.fb_links.specs.Lists.{is_in}
 use Rattle.fb_links.specs.declared.cycle.CycleStep.{CycleStep}
-use Rattle.fb_blossoms.specs.Nodes.{IsNested, IsOddCycle, Node, cycle_at, cycle_of, defects_at, defects_along, defects_of, is_on, leaf, node_at}
-use Rattle.fb_blossoms.proofs.Nested.{is_in-one, one_in}
-use Rattle.fb_blossoms.proofs.Held.{from_along}
+use Rattle.fb_blossoms.specs.Nodes.{IsNested, IsOddCycle, Node, cycle_at, defects_at, defects_along, defects_of, is_on, leaf, node_at}
+use Rattle.fb_blossoms.proofs.Nested.{one_in}
+use Rattle.fb_blossoms.proofs.Children.{held_below}
 use Rattle.fb_blossoms.proofs.Rounds.{cycle_kept}
 use Rattle.fb_blossoms.proofs.Sizes.{length_some}
 use Rattle.fb_resolve.specs.InternalMarks.{AreClosed, IsMarkedUp, is_marked}
 use Rattle.fb_graph.proofs.Booleans.{same_bool}
-
--- a node that holds a defect is its leaf, or one of its children holds the defect
-pub held_below : (store : List (Option Node)) (x d : ℕ) → IsNested store → is_in (defects_at store x) d ≡ true
-    → (node_at store x ≡ Some (leaf d))
-    ⊎ ((y : ℕ) × (is_on (cycle_at store x) y ≡ true) × (is_in (defects_at store y) d ≡ true))
-held_below store x d nested h = at (node_at store x) refl
-  where
-    at : (o : Option Node) → node_at store x ≡ o
-        → (node_at store x ≡ Some (leaf d))
-        ⊎ ((y : ℕ) × (is_on (cycle_at store x) y ≡ true) × (is_in (defects_at store y) d ≡ true))
-    at None e = absurd (both_ways false refl (sym (ap (λ o. is_in (defects_of o) d) e) ∙ h))
-    at (Some n) e = elim (nested.shaped x n e) [
-      | inl l ↦
-          let held : is_in (l.0 ∷ []) d ≡ true = sym (ap (λ o. is_in (defects_of o) d) (e ∙ ap Some l.1)) ∙ h in
-          inl (e ∙ ap Some (l.1 ∙ ap leaf (is_in-one l.0 d held)))
-      | inr b ↦
-          let held : is_in (defects_along store n.cycle) d ≡ true =
-          sym (ap (λ ds. is_in ds d) b.defects) ∙ (sym (ap (λ o. is_in (defects_of o) d) e) ∙ h) in
-          let r : (s : CycleStep) × (is_on n.cycle s.node ≡ true) × (is_in (defects_at store s.node) d ≡ true) =
-          from_along (λ s. defects_at store s.node) n.cycle d held in
-          inr (r.0.node, ap (λ o. is_on (cycle_of o) r.0.node) e ∙ r.1, r.2)
-    ]
 
 -- lists that aren't empty are together at least as long as their number
 all_long : (f : ℕ → List ℕ) (ss : List CycleStep) → ((x : ℕ) → is_on ss x ≡ true → f x ≢ [])
@@ -115,5 +93,3 @@ marks_up store old new l d x nested leaf_is up = same_bool (is_marked new x) (is
       | inl m ↦ up.kept x m
       | inr holds ↦ holders_marked store new l d nested up.closed leaf_is up.marked (length (defects_at store x)) x (omega arith) holds
     ]
-
--- no node holds the vertex

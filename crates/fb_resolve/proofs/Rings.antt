@@ -108,8 +108,3 @@ place_passed f test xs i d less n e =
     ap (place_of test) (drop_more (map f xs) i (f d) (let l : length (map f xs) ≡ length xs = map_length f xs in omega (arith, less, l)))
     ∙ ap (λ b. if b then 0 else 1 + place_of test (drop (i + 1) (map f xs))) (ap test (sym (get_map f xs i d)) ∙ n) in
     omega (arith, e, next)
-
-pub place_tests : (p q : ℕ → Bool) (xs : List ℕ) → ((x : ℕ) → p x ≡ q x) → place_of p xs ≡ place_of q xs
-place_tests p q [] same = refl
-place_tests p q (x ∷ xs) same =
-    ap (λ b. if b then 0 else 1 + place_of p xs) (same x) ∙ ap (λ n. if q x then 0 else 1 + n) (place_tests p q xs same)

@@ -1,4 +1,4 @@
--- Which nodes hold an end of a link, as a table of marks by name.
+-- Which nodes in blossoms hold an end of a link, as a table of marks by name.
 use Rattle.std.specs.Prelude.{ℕ, ◌≡◌, ◌<◌, ◌⊎◌, Bool, true, false, List, get_or, Option}
 use Rattle.fb_links.specs.declared.walk.Step.{Step}
 use Rattle.fb_blossoms.specs.Nodes.{AreWithin, cycle_at, defects_at, is_live, is_on}
@@ -7,6 +7,10 @@ use Rattle.fb_resolve.specs.Openings.{is_reached}
 
 abbrev pub is_marked : List Bool → ℕ → Bool
 is_marked marks name = get_or marks name false
+
+-- the node is in a blossom
+abbrev pub IsInside : List (Option blossoms.Node) → ℕ → Type 0
+IsInside store x = (p : ℕ) × (is_on (cycle_at store p) x ≡ true)
 
 -- the table has a place for each node
 abbrev pub HasPlaces : List (Option blossoms.Node) → ℕ → Type 0
@@ -25,6 +29,6 @@ pub record IsMarkedUp (store : List (Option blossoms.Node)) (old new : List Bool
   pub only : (x : ℕ) → is_marked new x ≡ true
       → (is_marked old x ≡ true) ⊎ AreWithin (defects_at store node) (defects_at store x)
 
--- just the nodes are marked in which one of the links ends
+-- of the nodes in blossoms just those are marked in which one of the links ends
 abbrev pub AreMarks : List (Option (List Step)) → List (Option blossoms.Node) → List ℕ → List Bool → Type 0
-AreMarks links store ids marks = (x : ℕ) → is_marked marks x ≡ is_reached links store ids x
+AreMarks links store ids marks = (x : ℕ) → IsInside store x → is_marked marks x ≡ is_reached links store ids x

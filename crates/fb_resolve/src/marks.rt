@@ -1,4 +1,4 @@
-//! Marks on the nodes in which a link ends.
+//! Marks on the nodes in blossoms in which a link ends.
 
 ghost use Rattle.std.specs.Prelude.{◌≡◌, ℕ, ◌<◌, ◌≤◌, ◌||◌, true, false, length, IfOk};
 ghost use Rattle.fb_graph.specs.Parity.{is_in};
@@ -6,7 +6,7 @@ ghost use Rattle.fb_blossoms.specs.Nodes.{defects_at, is_live};
 ghost use Rattle.fb_links.specs.Table.{walk_at};
 ghost use Rattle.fb_links.specs.Table as table;
 ghost use Rattle.fb_resolve.specs.Openings.{holds_end};
-ghost use Rattle.fb_resolve.specs.InternalMarks.{AreClosed, HasPlaces, IsMarkedUp, is_marked};
+ghost use Rattle.fb_resolve.specs.InternalMarks.{AreClosed, HasPlaces, IsInside, IsMarkedUp, is_marked};
 
 use fb_blossoms::Blossoms;
 use fb_graph::NoMemory;
@@ -67,12 +67,14 @@ pub fn mark_up(blossoms: &Blossoms, marks: &mut [bool], node: NodeId)
     }
 }
 
-/// Marks the nodes that hold the vertex, if it is a defect.
+/// Marks the nodes in blossoms that hold the vertex, if it is a defect, and no others in blossoms. An outer node is
+/// marked if a marked one is in it.
 fn mark_end(blossoms: &Blossoms, marks: &mut [bool], vertex: u32)
     requires places { HasPlaces blossoms.now (length marks.old) }
     requires closed { AreClosed blossoms.now marks.old }
     ensures closed { AreClosed blossoms.now marks.new }
-    ensures marks { (x : ℕ) → is_marked marks.new x ≡ (is_marked marks.old x || is_in (defects_at blossoms.now x) vertex) }
+    ensures marks { (x : ℕ) → IsInside blossoms.now x
+        → is_marked marks.new x ≡ (is_marked marks.old x || is_in (defects_at blossoms.now x) vertex) }
 {
     blossoms.keeps();
     if let Some(leaf) = blossoms.leaf_of(vertex) {
@@ -80,13 +82,14 @@ fn mark_end(blossoms: &Blossoms, marks: &mut [bool], vertex: u32)
     }
 }
 
-/// Marks the nodes in which the link ends.
+/// Marks the nodes in blossoms in which the link ends.
 pub fn mark_link(blossoms: &Blossoms, links: &Links, marks: &mut [bool], id: LinkId)
     requires places { HasPlaces blossoms.now (length marks.old) }
     requires live { table.is_live links.now id ≡ true }
     requires closed { AreClosed blossoms.now marks.old }
     ensures closed { AreClosed blossoms.now marks.new }
-    ensures marks { (x : ℕ) → is_marked marks.new x ≡ (is_marked marks.old x || holds_end (defects_at blossoms.now x) (walk_at links.now id)) }
+    ensures marks { (x : ℕ) → IsInside blossoms.now x
+        → is_marked marks.new x ≡ (is_marked marks.old x || holds_end (defects_at blossoms.now x) (walk_at links.now id)) }
 {
     let (from, to) = links.ends(id);
     mark_end(blossoms, marks, from);

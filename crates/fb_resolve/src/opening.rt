@@ -7,7 +7,7 @@ ghost use Rattle.fb_links.specs.Table as table;
 ghost use Rattle.fb_laws.specs.OpenedLinks.{every_second, place_of, round_from};
 ghost use Rattle.fb_half.specs.Translations.{ring_at};
 ghost use Rattle.fb_resolve.specs.Openings.{is_reached, opened_numbers, pair_numbers};
-ghost use Rattle.fb_resolve.specs.InternalMarks.{AreClosed, AreMarks, HasPlaces, is_marked};
+ghost use Rattle.fb_resolve.specs.InternalMarks.{AreClosed, AreMarks, HasPlaces, IsInside, is_marked};
 
 use crate::marks::{has_mark, mark_link, no_marks};
 use fb_blossoms::Blossoms;
@@ -40,13 +40,14 @@ pub fn opened(
     Ok(ids)
 }
 
-/// Marks the nodes in which the links end.
+/// Marks the nodes in blossoms in which the links end.
 fn mark_links(blossoms: &Blossoms, links: &Links, marks: &mut [bool], ids: &[LinkId])
     requires places { HasPlaces blossoms.now (length marks.old) }
     requires live { All (λ id. table.is_live links.now id ≡ true) ids.now }
     requires closed { AreClosed blossoms.now marks.old }
     ensures closed { AreClosed blossoms.now marks.new }
-    ensures marks { (x : ℕ) → is_marked marks.new x ≡ (is_marked marks.old x || is_reached links.now blossoms.now ids.now x) }
+    ensures marks { (x : ℕ) → IsInside blossoms.now x
+        → is_marked marks.new x ≡ (is_marked marks.old x || is_reached links.now blossoms.now ids.now x) }
 {
     for id in ids {
         mark_link(blossoms, links, marks, *id);
@@ -54,7 +55,7 @@ fn mark_links(blossoms: &Blossoms, links: &Links, marks: &mut [bool], ids: &[Lin
 }
 
 /// Opens the node: adds the links that match its children in pairs, but for the one that is marked, and marks the
-/// nodes in which they end.
+/// nodes in blossoms in which they end.
 fn open_node(
     blossoms: &Blossoms,
     links: &Links,
@@ -64,13 +65,14 @@ fn open_node(
 ) -> Result<(), NoMemory>
     requires places { HasPlaces blossoms.now (length marks.old) }
     requires rings { All (λ id. table.is_live links.now id ≡ true) (ring_at blossoms.now name) }
+    requires closed { AreClosed blossoms.now marks.old }
     requires marks { AreMarks links.now blossoms.now ids.old.items marks.old }
     ensures ids { OnOk result (ids.new.items ≡ ids.old.items ++ pair_numbers links.now blossoms.now ids.old.items name) }
+    ensures closed { OnOk result (AreClosed blossoms.now marks.new) }
     ensures marks { OnOk result (AreMarks links.now blossoms.now ids.new.items marks.new) }
 {
     let cycle = blossoms.cycle(name);
     let opened = ids.as_slice().len();
-    blossoms.keeps();
     push_every_second(ids, cycle, marked_place(cycle, marks))?;
     mark_links(blossoms, links, marks, &ids[opened..]);
     Ok(())

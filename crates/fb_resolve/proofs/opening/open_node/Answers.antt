@@ -1,5 +1,5 @@
 use Rattle.std.proofs.Common.{List, ℕ, ◌++◌, ap, ◌∙◌, length}
-use Rattle.fb_resolve.proofs.Openings.{live_from, live_pairs, marks_closed, marks_more, pairs_from}
+use Rattle.fb_resolve.proofs.Openings.{live_from, live_pairs, marks_more, pairs_from}
 use Rattle.fb_resolve.proofs.opening.open_node.Goals as goal
 
 pub mark_links-requires-clause-live : goal.mark_links-requires-clause-live
@@ -7,9 +7,6 @@ mark_links-requires-clause-live c =
     live_pairs c.args.links.now c.args.ids.now.items _ c.push_every_second.new.ids.items c.deref.result.now _
     (ap length c.as_slice-opened.ensures.value) c.deref.ensures.value c.in_ok-push_every_second.ensures
     (live_from c.args.links.now c.args.blossoms.now c.args.name c.marked_place.result c.cycle-cycle.result.now c.cycle-cycle.ensures c.requires.rings)
-
-pub mark_links-requires-clause-closed : goal.mark_links-requires-clause-closed
-mark_links-requires-clause-closed c = marks_closed c.args.links.now c.args.blossoms.now c.args.ids.now.items c.args.marks.now c.keeps.ensures c.requires.marks
 
 pub returns-clause-ids : goal.returns-clause-ids
 returns-clause-ids c =
