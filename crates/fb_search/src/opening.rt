@@ -1,10 +1,10 @@
 //! The cycle of a blossom that is opened, taken apart.
 
-ghost use Rattle.std.specs.Prelude.{◌≡◌, ◌<◌, ℕ, true, false, ◌∷◌, All, IfOk, OnOk, length};
+ghost use Rattle.std.specs.Prelude.{◌≡◌, ◌≢◌, ◌<◌, ℕ, true, false, [], ◌∷◌, All, IfOk, OnOk, length};
 ghost use Rattle.fb_graph.specs.Dual.{is_live};
 ghost use Rattle.fb_regions.specs.declared.roles.Role.TheVariants.{Minus};
 ghost use Rattle.fb_graph.specs.Parity.{is_in};
-ghost use Rattle.fb_blossoms.specs.Nodes.{IsOuter, defects_at, is_on};
+ghost use Rattle.fb_blossoms.specs.Nodes.{IsOuter, cycle_at, defects_at, is_on};
 ghost use Rattle.fb_half.specs.Values.{part_of};
 ghost use Rattle.fb_search.specs.InternalOpenings.{EndsAtChild, EntersWay, MayEnter, between_on, couples_on, even_on, links_left, place_on, rest_on, round_on, turned_on, way_on};
 
@@ -48,16 +48,21 @@ pub(crate) fn child_at(parts: &Parts, node: NodeId, link: LinkId) -> NodeId
     parts.blossoms.child_holding(node, end)
 }
 
-/// The first of the two vertices if it is a defect in the outer node, otherwise the second.
+/// The first of the two vertices if it is a defect in the outer blossom, otherwise the second.
 fn end_under(blossoms: &Blossoms, node: NodeId, first: u32, second: u32) -> u32
-    requires { IsOuter blossoms.now node }
+    requires blossom { cycle_at blossoms.now node ≢ [] }
+    requires outer { IsOuter blossoms.now node }
     ensures first { is_in (defects_at blossoms.now node) first ≡ true → result ≡ first }
     ensures second { is_in (defects_at blossoms.now node) first ≡ false → result ≡ second }
 {
     blossoms.keeps();
-    match blossoms.leaf_of(first) {
-        Some(leaf) if blossoms.outer_of(leaf) == node => first,
-        _ => second,
+    let Some(leaf) = blossoms.leaf_of(first) else {
+        return second;
+    };
+    if blossoms.outer_of(leaf) == node {
+        first
+    } else {
+        second
     }
 }
 

@@ -5,8 +5,13 @@ use Rattle.fb_search.proofs.EndsUnder.{covered_held, uncovered_apart}
 use Rattle.fb_search.proofs.EnteredChildren.{child_entered, end_found, end_held}
 use Rattle.fb_search.proofs.opening.child_at.Goals as goal
 
-pub end_under-end-requires : goal.end_under-end-requires
-end_under-end-requires c =
+pub end_under-end-requires-clause-blossom : goal.end_under-end-requires-clause-blossom
+end_under-end-requires-clause-blossom c =
+    let may = c.requires.1 in
+    cycle_there c.args.parts.now.regions.nodes c.args.parts.now.blossoms c.args.node may.agreed may.may_split
+
+pub end_under-end-requires-clause-outer : goal.end_under-end-requires-clause-outer
+end_under-end-requires-clause-outer c =
     let may = c.requires.1 in
     outer_in_store c.args.parts.now.regions.nodes c.args.parts.now.blossoms c.args.node may.agreed may.may_split.outer
 
