@@ -25,7 +25,7 @@ use std::marker::Model;
 #[derive(Drop)]
 pub struct Blossoms {
     nodes: Slab<Entry>,
-    /// The leaf of each defect in a blossom; perhaps those of others too.
+    /// The leaf of each defect in a blossom, and of some others: it stays when its blossom is opened.
     leaves: Leaves,
     /// The number of nodes made so far.
     made: u64,
@@ -205,10 +205,11 @@ impl Blossoms {
         child_over(&self.nodes, self.made, node, leaf)
     }
 
-    /// The leaf of the defect, if it is in a blossom. `None` is returned only if no child of a blossom holds the defect.
+    /// The leaf of the defect; `None` only if no child of a blossom holds the defect.
     pub fn leaf_of(&self, defect: u32) -> Option<NodeId>
         ensures leaf { IfSome result (λ x. node_at self.now x ≡ Some (leaf defect)) }
-        ensures none { IfNone result ((p x : ℕ) → is_on (cycle_at self.now p) x ≡ true → is_in (defects_at self.now x) defect ≡ false) }
+        ensures none { IfNone result ((p x : ℕ) → is_on (cycle_at self.now p) x ≡ true
+            → is_in (defects_at self.now x) defect ≡ false) }
     {
         leaf_of(&self.leaves, defect)
     }

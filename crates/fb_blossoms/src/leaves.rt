@@ -1,8 +1,7 @@
 //! The index by which the leaf of a defect is found. It has the leaves in blossoms.
 
 ghost use Rattle.fb_links.specs.Lists.{is_in};
-ghost use Rattle.std.specs.Prelude.{◌≡◌, ◌&&◌, ◌==◌, ℕ, Some, OnErr, OnOk, if◌then◌else◌, is_some};
-ghost use Rattle.std.specs.List.{list_any};
+ghost use Rattle.std.specs.Prelude.{◌≡◌, ℕ, Some, OnErr, OnOk, if◌then◌else◌};
 ghost use Rattle.std.specs.Ordering.{nat_cmp};
 ghost use Rattle.std.specs.BTreeMap.{get as found};
 ghost use Rattle.slab.specs.Slab.{get};
@@ -28,7 +27,8 @@ pub fn leaf_of(leaves: &Leaves, defect: u32) -> Option<NodeId>
 
 /// Enters the node if it is a leaf.
 fn enter_leaf(nodes: &Slab<Entry>, leaves: &mut Leaves, node: NodeId) -> Result<(), NoMemory>
-    ensures ok { OnOk result ((d : ℕ) → found nat_cmp leaves.new d ≡ (if is_in (own_in (get nodes.now node)) d then Some node else found nat_cmp leaves.old d)) }
+    ensures ok { OnOk result ((d : ℕ) → found nat_cmp leaves.new d
+        ≡ (if is_in (own_in (get nodes.now node)) d then Some node else found nat_cmp leaves.old d)) }
     ensures err { OnErr result ((d : ℕ) → found nat_cmp leaves.new d ≡ found nat_cmp leaves.old d) }
 {
     let Some(entry) = nodes.get(node as usize) else {
@@ -65,7 +65,8 @@ pub fn enter_taken(
 ) -> Result<(), NoMemory>
     requires { AreOwnApart nodes.now.slots }
     ensures grown { IsGrown nodes.now.slots (found nat_cmp leaves.old) (found nat_cmp leaves.new) }
-    ensures ok { OnOk result (HasLeaves nodes.now.slots (found nat_cmp leaves.new) (is_taken_child nodes.now.slots pairs.now)) }
+    ensures ok { OnOk result (HasLeaves nodes.now.slots (found nat_cmp leaves.new)
+        (is_taken_child nodes.now.slots pairs.now)) }
 {
     for (_, node) in pairs {
         if parent_of(nodes, *node).is_some() {
