@@ -1,26 +1,26 @@
 -- The right table's links move into the left one, from the last number down.
 use Rattle.std.proofs.Common.{ℕ, ◌+◌, ◌<◌, ◌≤◌, ◌≡◌, ◌≢◌, ◌==◌, true, false, List, [], ◌∷◌, ◌++◌, map, reverse, length, Option, Some, None, All, arith, refl, sym, ap, ◌∙◌, subst, inl, inr}
-use Rattle.std.specs.Prelude.{is_some}
+use Rattle.std.specs.Prelude.{is_some, option_map}
 use Rattle.std.proofs.lemmas.Bool.{cases_lt, false≢true, or_from}
-use Rattle.std.proofs.lemmas.List.{length_push, get_or_push, get_or_past, map-append, reverse-append}
+use Rattle.std.proofs.lemmas.List.{length_push, get_or_push, get_or_past, map-append, length-map, reverse-append}
 use Rattle.std.proofs.lemmas.List.Sorted.{All-permutation, IsPermutation-map, IsPermutation-reverse, list_any-IsPermutation}
-use Rattle.std.proofs.lemmas.List.Elements.{All-nil, All-cons, All-get_or, All-head, All-tail, All-push, All-weaker}
+use Rattle.std.proofs.lemmas.List.Elements.{All-nil, All-cons, All-head, All-tail, All-push, All-weaker}
 use Rattle.fb_links.specs.Lists.{AreDistinct, is_in}
 use Rattle.fb_links.specs.declared.walk.Step.{Step}
-use Rattle.fb_links.specs.Table.{Adds, IsLink, is_live, link_at}
-use Rattle.fb_links.specs.InternalKept.{IsEntry}
+use Rattle.fb_links.specs.Table.{Adds, is_live, link_at}
+use Rattle.fb_links.specs.InternalKept.{IsEntry, walk_in, walks_in}
+use Rattle.fb_links.specs.declared.span.Span.{Span}
 use Rattle.fb_links.specs.Merged.{AreMerged, IsMoved, old_numbers, new_numbers}
 use Rattle.fb_links.specs.InternalMerging.{AreMerging}
 use Rattle.fb_links.proofs.Lists.{AreDistinct-push, is_in-push_other, is_in-push_same, not_in-push, unequal}
-use Rattle.fb_links.proofs.Numbers.{get_or-push_other}
+use Rattle.fb_links.proofs.Numbers.{Spans, get_or-push_other}
 
 abbrev pub Table : Type 0
 Table = List (Option (List Step))
 
-pub merging_begins : (left right : Table) → All IsEntry right → AreMerging left right right [] left
-merging_begins left right entries =
+pub merging_begins : (left right : Table) → AreMerging left right right [] left
+merging_begins left right =
     record {
-      entries = entries;
       unread = λ id within. refl;
       unlisted = λ id within. refl;
       listed = λ id past. sym (ap is_some (get_or_past right id None past));
@@ -56,18 +56,11 @@ front_entry left right rest entry pairs new merging id within =
     let other : id ≢ length rest = omega arith in
     sym (get_or-push_other rest entry None id other) ∙ merging.unread id (omega (arith, length_push rest entry))
 
-front_entries : (rest : Table) (entry : Option (List Step)) → All IsEntry (rest ++ entry ∷ []) → All IsEntry rest
-front_entries [] entry entries = All-nil IsEntry
-front_entries (x ∷ xs) entry entries =
-    All-cons IsEntry x xs (All-head IsEntry x (xs ++ entry ∷ []) entries)
-    (front_entries xs entry (All-tail IsEntry x (xs ++ entry ∷ []) entries))
-
 -- a number without link is passed over
 pub merging_passes : (left right rest : Table) (pairs : List (ℕ × ℕ)) (new : Table)
     → AreMerging left right (rest ++ None ∷ []) pairs new → AreMerging left right rest pairs new
 merging_passes left right rest pairs new merging =
     record {
-      entries = front_entries rest None merging.entries;
       unread = front_entry left right rest None pairs new merging;
       unlisted = λ id within. merging.unlisted id (omega (arith, length_push rest None));
       listed = listed;
@@ -114,7 +107,6 @@ pub merging_moves : (left right rest : Table) (pairs : List (ℕ × ℕ)) (old n
     → AreMerging left right rest (pairs ++ (length rest, id) ∷ []) new
 merging_moves left right rest pairs old new id walk merging adds =
     record {
-      entries = front_entries rest (Some walk) merging.entries;
       unread = front_entry left right rest (Some walk) pairs old merging;
       unlisted = λ k within. older k (omega arith) ∙ merging.unlisted k (omega (arith, pushed));
       listed = listed;
@@ -203,26 +195,40 @@ merged_reversed left right pairs new merged =
       others = λ id none. merged.others id (sym (listed_reversed (λ p. p.1) pairs id) ∙ none);
     }
 
--- as the code reads the right table: `entry` is the one taken off its end
-pub merging_after_none : (left right table rest : Table) (entry : Option (List Step)) (pairs : List (ℕ × ℕ)) (new : Table)
-    → AreMerging left right table pairs new → table ≡ rest ++ entry ∷ [] → entry ≡ None → AreMerging left right rest pairs new
-merging_after_none left right table rest entry pairs new merging taken none =
-    merging_passes left right rest pairs new
-    (subst (λ t. AreMerging left right t pairs new) (taken ∙ ap (λ e. rest ++ e ∷ []) none) merging)
+taken_walk : (steps : List Step) (spans rest : Spans) (entry is : Option Span) → spans ≡ rest ++ entry ∷ [] → entry ≡ is
+    → walks_in steps spans ≡ walks_in steps rest ++ option_map (walk_in steps) is ∷ []
+taken_walk steps spans rest entry is taken same =
+    ap (walks_in steps) (taken ∙ ap (λ e. rest ++ e ∷ []) same) ∙ map-append (option_map (walk_in steps)) rest (is ∷ [])
 
-pub merging_after_some : (left right table rest : Table) (entry : Option (List Step)) (pairs more : List (ℕ × ℕ)) (old new : Table)
-    (number id : ℕ) (walk : List Step)
-    → AreMerging left right table pairs old → table ≡ rest ++ entry ∷ [] → entry ≡ Some walk → number ≡ length rest
-    → Adds old new id walk → more ≡ pairs ++ (number, id) ∷ [] → AreMerging left right rest more new
-merging_after_some left right table rest entry pairs more old new number id walk merging taken some at adds pushed =
-    subst (λ m. AreMerging left right rest m new) (sym (pushed ∙ ap (λ n. pairs ++ (n, id) ∷ []) at))
-    (merging_moves left right rest pairs old new id walk
-    (subst (λ t. AreMerging left right t pairs old) (taken ∙ ap (λ e. rest ++ e ∷ []) some) merging) adds)
+All-front : {X : Type 0} (P : X → Type 0) → (xs : List X) (y : X) → All P (xs ++ y ∷ []) → (All P xs) × P y
+All-front P [] y all = (All-nil P, All-head P y [] all)
+All-front P (x ∷ xs) y all =
+    let rest = All-front P xs y (All-tail P x (xs ++ y ∷ []) all) in
+    (All-cons P x xs (All-head P x (xs ++ y ∷ []) all) rest.0, rest.1)
 
--- what is taken off the end is a link's walk
-pub taken_link : (left right table rest : Table) (entry : Option (List Step)) (pairs : List (ℕ × ℕ)) (new : Table) (walk : List Step)
-    → AreMerging left right table pairs new → table ≡ rest ++ entry ∷ [] → entry ≡ Some walk → IsLink walk
-taken_link left right table rest entry pairs new walk merging taken some =
-    subst IsEntry (get_or_push rest (Some walk) None (length rest) refl)
-    (All-get_or IsEntry (rest ++ Some walk ∷ []) (length rest) None (omega (arith, length_push rest (Some walk)))
-    (subst (All IsEntry) (taken ∙ ap (λ e. rest ++ e ∷ []) some) merging.entries))
+-- the spans left, and the one taken off
+pub entries_taken : (steps : List Step) (spans rest : Spans) (entry : Option Span) → All (IsEntry steps) spans
+    → spans ≡ rest ++ entry ∷ [] → (All (IsEntry steps) rest) × IsEntry steps entry
+entries_taken steps spans rest entry entries taken =
+    All-front (IsEntry steps) rest entry (subst (All (IsEntry steps)) taken entries)
+
+-- as the code reads the right table: `entry` is the span taken off its end
+pub merging_after_none : (left right : Table) (steps : List Step) (spans rest : Spans) (entry : Option Span)
+    (pairs : List (ℕ × ℕ)) (new : Table)
+    → AreMerging left right (walks_in steps spans) pairs new → spans ≡ rest ++ entry ∷ [] → entry ≡ None
+    → AreMerging left right (walks_in steps rest) pairs new
+merging_after_none left right steps spans rest entry pairs new merging taken none =
+    merging_passes left right (walks_in steps rest) pairs new
+    (subst (λ t. AreMerging left right t pairs new) (taken_walk steps spans rest entry None taken none) merging)
+
+pub merging_after_some : (left right : Table) (steps : List Step) (spans rest : Spans) (entry : Option Span) (span : Span)
+    (pairs more : List (ℕ × ℕ)) (old new : Table) (number id : ℕ) (walk : List Step)
+    → AreMerging left right (walks_in steps spans) pairs old → spans ≡ rest ++ entry ∷ [] → entry ≡ Some span
+    → number ≡ length rest → walk ≡ walk_in steps span → Adds old new id walk → more ≡ pairs ++ (number, id) ∷ []
+    → AreMerging left right (walks_in steps rest) more new
+merging_after_some left right steps spans rest entry span pairs more old new number id walk merging taken some at is adds pushed =
+    subst (λ m. AreMerging left right (walks_in steps rest) m new)
+    (sym (pushed ∙ ap (λ n. pairs ++ (n, id) ∷ []) (at ∙ sym (length-map rest (option_map (walk_in steps))))))
+    (merging_moves left right (walks_in steps rest) pairs old new id walk
+    (subst (λ t. AreMerging left right t pairs old)
+    (taken_walk steps spans rest entry (Some span) taken some ∙ ap (λ w. walks_in steps rest ++ Some w ∷ []) (sym is)) merging) adds)

@@ -3,13 +3,11 @@ use Rattle.std.specs.Prelude.{ℕ, ◌≡◌, ◌<◌, ◌≤◌, false, List, l
 use Rattle.fb_links.specs.Lists.{AreDistinct, is_in}
 use Rattle.fb_links.specs.declared.walk.Step.{Step}
 use Rattle.fb_links.specs.Table.{is_live, link_at}
-use Rattle.fb_links.specs.InternalKept.{IsEntry}
 use Rattle.fb_links.specs.Merged.{IsMoved, old_numbers, new_numbers}
 
 -- `rest` is the beginning of the right table that is still to move; the links after it are moved
 pub record AreMerging (left right rest : List (Option (List Step))) (pairs : List (ℕ × ℕ))
     (new : List (Option (List Step))) : Type 0 where
-  pub entries : All IsEntry rest
   pub unread : (id : ℕ) → id < length rest → link_at rest id ≡ link_at right id
   pub unlisted : (id : ℕ) → id < length rest → is_in (old_numbers pairs) id ≡ false
   pub listed : (id : ℕ) → length rest ≤ id → is_in (old_numbers pairs) id ≡ is_live right id

@@ -4,9 +4,9 @@
 
 pub mod cycle;
 pub mod laws;
-mod link;
 pub mod links;
 pub mod names;
+mod span;
 mod steps;
 pub mod walk;
 

@@ -1,34 +1,40 @@
-ghost use Rattle.std.specs.Prelude.{◌≡◌, ◌<◌, ◌^◌, ℕ, true, List, [], length, Some, IfOk, OnErr};
+ghost use Rattle.std.specs.Prelude.{◌≡◌, ◌<◌, ◌^◌, ℕ, true, List, [], length, reverse, vec_capacity, Some, IfOk, OnErr};
 ghost use Rattle.fb_links.specs.declared.walk.Step.{Step};
-ghost use Rattle.fb_links.specs.Walks.{walk_weight, start_of, end_of, share_end, joined_walk};
+ghost use Rattle.fb_links.specs.Walks.{walk_weight, start_of, end_of, share_end, joined_walk, IsChained};
 ghost use Rattle.fb_links.specs.Table.{IsLink, Adds, Removes, is_live, link_at, walk_at};
 ghost use Rattle.fb_links.specs.Merged.{AreMerged};
+ghost use Rattle.fb_links.specs.InternalKept.{AreNumbered, Stores};
 
-use crate::link::{Link, link_of};
-use crate::steps::{copied, joined_walk};
+use crate::span::{Span, span_of};
+use crate::steps::{copied, end_of, push_joined, start_of, weight_of};
 use crate::{LinkId, NoMemory, Step, Walk};
 use std::alloc::Global;
 use std::marker::Model;
+use std::mem;
 
 /// Walks between vertices, each kept under a number. Contracts see them as the table of the walks by their numbers.
 /// A call that returns `NoMemory` leaves them unchanged.
 #[derive(Drop)]
 pub struct Links {
-    links: Vec<Option<Link>>,
+    spans: Vec<Option<Span>>,
     /// The numbers in the table that no link has, with room for all numbers of the table.
     free: Vec<usize>,
+    /// The steps of all walks, one walk after another. Those that no span has are of links that were forgotten.
+    steps: Vec<Step>,
+    /// Room for the next walk that is made step by step.
+    buffer: Vec<Step>,
 }
 
 impl Model for Links {
     ghost use Rattle.std.specs.Prelude.{List, Option, reverse, vec_capacity};
     ghost use Rattle.fb_links.specs.declared.walk.Step.{Step};
-    ghost use Rattle.fb_links.specs.InternalKept.{IsKept};
+    ghost use Rattle.fb_links.specs.InternalKept.{IsKept, walks_in};
 
     ghost Value = { List (Option (List Step)) };
 
-    ghost view = { λ l. l.links.items };
+    ghost view = { λ l. walks_in l.steps.items l.spans.items };
 
-    ghost invariant = { λ l. IsKept l.links.items (reverse l.free.items) (vec_capacity l.free) };
+    ghost invariant = { λ l. IsKept l.steps.items l.spans.items (reverse l.free.items) (vec_capacity l.free) };
 }
 
 impl Links {
@@ -37,8 +43,10 @@ impl Links {
         ensures { IfOk result (λ links. links ≡ []) }
     {
         Ok(Links {
-            links: Vec::new(alloc),
+            spans: Vec::new(alloc),
             free: Vec::new(alloc),
+            steps: Vec::new(alloc),
+            buffer: Vec::new(alloc),
         })
     }
 
@@ -46,20 +54,18 @@ impl Links {
     pub fn into_empty(self) -> Links
         ensures { result ≡ [] }
     {
-        let Links {
-            mut links,
-            mut free,
-        } = self;
-        links.clear();
-        free.clear();
-        Links { links, free }
+        let mut links = self;
+        links.spans.clear();
+        links.free.clear();
+        links.steps.clear();
+        links
     }
 
     /// Does nothing. Its clause states what holds of every link's walk.
     pub fn keeps(&self)
         ensures { (id : ℕ) (walk : List Step) → link_at self.now id ≡ Some walk → IsLink walk }
     {
-        let _ = &self.links;
+        let _ = &self.spans;
     }
 
     /// Makes the walk a link, under a number that no link has. Its time is that of the walk's steps.
@@ -71,12 +77,36 @@ impl Links {
     {
         // The vectors grow by the allocator that they were made with.
         walk.keeps();
-        self.put(Link::of(walk))
+        self.put(walk.steps())
+    }
+
+    /// Lends an empty vector for the steps of the walk that `make_buffered` takes next, with the room of the last one.
+    /// Takes no memory.
+    pub fn take_buffer(&mut self, alloc: Global) -> Vec<Step>
+        ensures empty { result.items ≡ [] }
+        ensures unchanged { self.new ≡ self.old }
+    {
+        let mut steps = mem::replace(&mut self.buffer, Vec::new(alloc));
+        steps.clear();
+        steps
+    }
+
+    /// Makes the walk a link as `make` does, and keeps the vector for the next one.
+    pub fn make_buffered(&mut self, walk: Vec<Step>) -> Result<LinkId, NoMemory>
+        requires some { 0 < length walk.items }
+        requires chained { IsChained walk.items }
+        requires light { walk_weight walk.items < 2 ^ 64 }
+        ensures ok { IfOk result (λ id. Adds self.old self.new id walk.items) }
+        ensures err { OnErr result (self.new ≡ self.old) }
+    {
+        let made = self.put(&walk);
+        self.buffer = walk;
+        made
     }
 
     /// Makes a further link of the walks of two links that share an end: from the other end of the first link over the
     /// shared end to the other end of the second. Both links stay.
-    pub fn join_ends(&mut self, alloc: Global, a: LinkId, b: LinkId) -> Result<LinkId, NoMemory>
+    pub fn join_ends(&mut self, _alloc: Global, a: LinkId, b: LinkId) -> Result<LinkId, NoMemory>
         requires first { is_live self.old a ≡ true }
         requires second { is_live self.old b ≡ true }
         requires meet { share_end (walk_at self.old a) (walk_at self.old b) ≡ true }
@@ -84,25 +114,36 @@ impl Links {
         ensures ok { IfOk result (λ id. Adds self.old self.new id (joined_walk (walk_at self.old a) (walk_at self.old b))) }
         ensures err { OnErr result (self.new ≡ self.old) }
     {
-        let steps = joined_walk(
-            alloc,
-            link_of(&self.links, a).steps(),
-            link_of(&self.links, b).steps(),
-        )?;
-        self.put(Link::of(Walk::from_vec(steps)))
+        // The vectors grow by the allocator that they were made with.
+        let first = span_of(&self.spans, a as usize);
+        let second = span_of(&self.spans, b as usize);
+        let start = self.steps.len();
+        push_joined(&mut self.steps, first, second)?;
+        let joined = Span {
+            start,
+            end: self.steps.len(),
+            weight: first.weight + second.weight,
+        };
+        let id = store(&mut self.spans, &mut self.free, joined)?;
+        Ok(id as LinkId)
     }
 
-    /// Removes the link, whose number may then be used again. Allocates nothing.
+    /// Removes the link, whose number may then be used again. Takes constant time and no memory: the table keeps its
+    /// steps until it has no link.
     pub fn forget(&mut self, link: LinkId)
         requires { is_live self.old link ≡ true }
         ensures { Removes self.old self.new link }
     {
-        self.links[link as usize] = None;
+        self.spans[link as usize] = None;
         self.free.push_reserved(link as usize);
+        if self.free.len() == self.spans.len() {
+            self.steps.clear();
+        }
     }
 
     /// The left table with the right one's links, each under a number that no link of the left one has, and the pairs of
-    /// their old and new numbers. Walks are moved, not copied, in time proportional to the right table's length.
+    /// their old and new numbers. Takes time proportional to
+    /// the right table's length and its walks' steps.
     pub fn merged(
         alloc: Global,
         left: Links,
@@ -124,22 +165,19 @@ impl Links {
         ensures spare { IfOk result (λ r. r.2 ≡ []) }
     {
         let mut links = left;
-        let Links {
-            links: mut table,
-            mut free,
-        } = right;
+        let mut spare = right;
         let mut pairs = Vec::new(alloc);
-        while let Some(entry) = table.pop() {
-            if let Some(link) = entry {
+        while let Some(entry) = spare.spans.pop() {
+            if let Some(span) = entry {
                 pairs.reserve(1)?;
-                let new = links.put(link)?;
-                pairs.push_reserved((table.len() as LinkId, new));
+                let new = links.put(span.of(&spare.steps))?;
+                pairs.push_reserved((spare.spans.len() as LinkId, new));
             }
         }
         // By rising old numbers, as `names_of` takes them without sorting.
         pairs.reverse();
-        free.clear();
-        let spare = Links { links: table, free };
+        spare.free.clear();
+        spare.steps.clear();
         Ok((links, pairs, spare))
     }
 
@@ -148,7 +186,8 @@ impl Links {
         requires { is_live self.now link ≡ true }
         ensures { result ≡ (start_of (walk_at self.now link), end_of (walk_at self.now link)) }
     {
-        link_of(&self.links, link).ends()
+        let steps = self.steps(link);
+        (start_of(steps), end_of(steps))
     }
 
     /// The steps of the link's walk.
@@ -156,7 +195,7 @@ impl Links {
         requires { is_live self.now link ≡ true }
         ensures { result.now ≡ walk_at self.now link }
     {
-        link_of(&self.links, link).steps()
+        span_of(&self.spans, link as usize).of(&self.steps)
     }
 
     /// A copy of the link's walk.
@@ -164,7 +203,8 @@ impl Links {
         requires { is_live self.now link ≡ true }
         ensures { IfOk result (λ walk. walk ≡ walk_at self.now link) }
     {
-        let steps = copied(alloc, link_of(&self.links, link).steps())?;
+        self.keeps();
+        let steps = copied(alloc, self.steps(link))?;
         Ok(Walk::from_vec(steps))
     }
 
@@ -173,23 +213,45 @@ impl Links {
         requires { is_live self.now link ≡ true }
         ensures { result ≡ walk_weight (walk_at self.now link) }
     {
-        link_of(&self.links, link).weight()
+        span_of(&self.spans, link as usize).weight
     }
 
-    /// Stores the link under a number that no link has: the one freed last, if any is free.
-    fn put(&mut self, link: Link) -> Result<LinkId, NoMemory>
-        requires { IsLink link }
-        ensures ok { IfOk result (λ id. Adds self.old self.new id link) }
+    /// Adds a copy of the walk, under a number that no link has.
+    fn put(&mut self, walk: &[Step]) -> Result<LinkId, NoMemory>
+        requires { IsLink walk.now }
+        ensures ok { IfOk result (λ id. Adds self.old self.new id walk.now) }
         ensures err { OnErr result (self.new ≡ self.old) }
     {
-        if let Some(id) = self.free.pop() {
-            self.links[id] = Some(link);
-            return Ok(id as u64);
-        }
-        let id = self.links.len();
-        self.free.reserve(id + 1)?;
-        self.links.reserve(1)?;
-        self.links.push_reserved(Some(link));
-        Ok(id as u64)
+        let start = self.steps.len();
+        self.steps.extend_from_slice(walk)?;
+        let span = Span {
+            start,
+            end: self.steps.len(),
+            weight: weight_of(walk),
+        };
+        let id = store(&mut self.spans, &mut self.free, span)?;
+        Ok(id as LinkId)
     }
+}
+
+/// Stores the span under a number that no link has: the one freed last, if any is free.
+fn store(
+    spans: &mut Vec<Option<Span>>,
+    free: &mut Vec<usize>,
+    span: Span,
+) -> Result<usize, NoMemory>
+    requires { AreNumbered spans.old.items (reverse free.old.items) (vec_capacity free.old) }
+    ensures numbers { AreNumbered spans.new.items (reverse free.new.items) (vec_capacity free.new) }
+    ensures ok { IfOk result (λ id. Stores spans.old.items spans.new.items id span) }
+    ensures err { OnErr result (spans.new.items ≡ spans.old.items) }
+{
+    if let Some(id) = free.pop() {
+        spans[id] = Some(span);
+        return Ok(id);
+    }
+    let id = spans.len();
+    free.reserve(id + 1)?;
+    spans.reserve(1)?;
+    spans.push_reserved(Some(span));
+    Ok(id)
 }

@@ -1,6 +1,8 @@
-ghost use Rattle.std.specs.Prelude.{◌≡◌, ◌+◌, ◌<◌, ◌^◌, ◌++◌, IfOk, OnOk};
+ghost use Rattle.std.specs.Prelude.{◌≡◌, ◌≤◌, ◌<◌, ◌^◌, ◌++◌, length, take, drop, if◌then◌else◌, OnOk, OnErr, IfOk};
 ghost use Rattle.fb_links.specs.Walks.{walk_weight, start_of, end_of, meeting_vertex, ending_at, starting_at, turned_walk, turned_step, is_end, joined_walk};
+ghost use Rattle.fb_links.specs.InternalKept.{IsInside, walk_in};
 
+use crate::span::Span;
 use crate::{NoMemory, Step};
 use std::alloc::Global;
 
@@ -36,22 +38,24 @@ pub fn end_of(steps: &[Step]) -> u32
     }
 }
 
-/// The two walks joined at the vertex where they meet.
-pub fn joined_walk(alloc: Global, a: &[Step], b: &[Step]) -> Result<Vec<Step>, NoMemory>
-    ensures { IfOk result (λ v. v.items ≡ joined_walk a.now b.now) }
+/// A copy of the walk.
+pub fn copied(alloc: Global, steps: &[Step]) -> Result<Vec<Step>, NoMemory>
+    ensures { IfOk result (λ w. w.items ≡ steps.now) }
 {
-    let v = meeting_vertex(a, b);
-    let mut steps = ending_at(alloc, a, v)?;
-    add_from(alloc, &mut steps, b, v)?;
-    Ok(steps)
+    Vec::from_slice(alloc, steps)
 }
 
-/// Adds the other walk, reversed if it does not begin at the vertex.
-fn add_from(alloc: Global, steps: &mut Vec<Step>, other: &[Step], v: u32) -> Result<(), NoMemory>
-    ensures { OnOk result (steps.new.items ≡ steps.old.items ++ starting_at v other.now) }
+/// Adds the walks of two spans of the table at its end, joined at the vertex where they meet.
+pub fn push_joined(steps: &mut Vec<Step>, a: Span, b: Span) -> Result<(), NoMemory>
+    requires first { IsInside steps.old.items a }
+    requires second { IsInside steps.old.items b }
+    ensures ok { OnOk result
+        (steps.new.items ≡ steps.old.items ++ joined_walk (walk_in steps.old.items a) (walk_in steps.old.items b)) }
+    ensures kept { take (length steps.old.items) steps.new.items ≡ steps.old.items }
 {
-    let rest = starting_at(alloc, other, v)?;
-    steps.extend_from_slice(&rest)
+    let v = meeting_vertex(a.of(steps), b.of(steps));
+    push_ending_at(steps, a, v)?;
+    push_starting_at(steps, b, v)
 }
 
 /// The vertex where the two walks meet, if they share an end.
@@ -68,42 +72,57 @@ fn is_end(steps: &[Step], v: u32) -> bool
     v == start_of(steps) || v == end_of(steps)
 }
 
-/// A copy of the walk, reversed if it does not end at the vertex.
-fn ending_at(alloc: Global, steps: &[Step], v: u32) -> Result<Vec<Step>, NoMemory>
-    ensures { IfOk result (λ w. w.items ≡ ending_at v steps.now) }
+/// Adds a copy of the walk of a span, reversed if it does not end at the vertex.
+fn push_ending_at(steps: &mut Vec<Step>, span: Span, v: u32) -> Result<(), NoMemory>
+    requires { IsInside steps.old.items span }
+    ensures ok { OnOk result (steps.new.items ≡ steps.old.items ++ ending_at v (walk_in steps.old.items span)) }
+    ensures err { OnErr result (steps.new.items ≡ steps.old.items) }
 {
-    if v == end_of(steps) {
-        return copied(alloc, steps);
+    let turned = v != end_of(span.of(steps));
+    push_copy(steps, span, turned)
+}
+
+/// Adds a copy of the walk of a span, reversed if it does not begin at the vertex.
+fn push_starting_at(steps: &mut Vec<Step>, span: Span, v: u32) -> Result<(), NoMemory>
+    requires { IsInside steps.old.items span }
+    ensures ok { OnOk result (steps.new.items ≡ steps.old.items ++ starting_at v (walk_in steps.old.items span)) }
+    ensures err { OnErr result (steps.new.items ≡ steps.old.items) }
+{
+    let turned = v != start_of(span.of(steps));
+    push_copy(steps, span, turned)
+}
+
+/// Adds a copy of the walk of a span, reversed if that is asked for.
+fn push_copy(steps: &mut Vec<Step>, span: Span, turned: bool) -> Result<(), NoMemory>
+    requires { IsInside steps.old.items span }
+    ensures ok { OnOk result
+        (steps.new.items ≡ steps.old.items ++ (if turned then turned_walk (walk_in steps.old.items span) else walk_in steps.old.items span)) }
+    ensures err { OnErr result (steps.new.items ≡ steps.old.items) }
+{
+    let from = steps.len();
+    steps.extend_from_within(span.start..span.end)?;
+    if turned {
+        turn_from(steps, from);
     }
-    turned_walk(alloc, steps)
+    Ok(())
 }
 
-/// A copy of the walk, reversed if it does not begin at the vertex.
-fn starting_at(alloc: Global, steps: &[Step], v: u32) -> Result<Vec<Step>, NoMemory>
-    ensures { IfOk result (λ w. w.items ≡ starting_at v steps.now) }
+/// Reverses the walk that the steps from this place on are.
+pub fn turn_from(steps: &mut Vec<Step>, from: usize)
+    requires { from ≤ length steps.old.items }
+    ensures { steps.new.items ≡ take from steps.old.items ++ turned_walk (drop from steps.old.items) }
 {
-    if v == start_of(steps) {
-        return copied(alloc, steps);
+    turn(&mut steps[from..]);
+}
+
+/// Reverses the walk: from its last vertex back to its first.
+fn turn(steps: &mut [Step])
+    ensures { steps.new ≡ turned_walk steps.old }
+{
+    steps.reverse();
+    for step in steps {
+        *step = turned_step(step);
     }
-    turned_walk(alloc, steps)
-}
-
-/// A copy of the walk.
-pub fn copied(alloc: Global, steps: &[Step]) -> Result<Vec<Step>, NoMemory>
-    ensures { IfOk result (λ w. w.items ≡ steps.now) }
-{
-    Vec::from_slice(alloc, steps)
-}
-
-/// The walk reversed: from its last vertex back to its first.
-fn turned_walk(alloc: Global, steps: &[Step]) -> Result<Vec<Step>, NoMemory>
-    ensures { IfOk result (λ w. w.items ≡ turned_walk steps.now) }
-{
-    steps
-        .iter()
-        .rev()
-        .map(|step| turned_step(step))
-        .collect(alloc)
 }
 
 /// The step in the other direction.

@@ -1,24 +1,33 @@
-use Rattle.std.proofs.Common.{ℕ, ◌<◌, List, length, set, Option, None, arith}
-use Rattle.std.proofs.lemmas.List.{get_or-set_same, get_or-set_other}
-use Rattle.fb_links.specs.declared.walk.Step.{Step}
-use Rattle.fb_links.specs.Table.{Removes}
-use Rattle.fb_links.proofs.Numbers.{kept_after_push, live_below}
+use Rattle.std.proofs.Common.{arith}
+use Rattle.std.specs.Prelude.{None}
+use Rattle.std.proofs.lemmas.List.{length-set}
+use Rattle.fb_links.proofs.Numbers.{below_end, none_left, numbered_after_push}
+use Rattle.fb_links.proofs.Spans.{entries_without, has_span, removed, removed_last, walks_of_none}
 use Rattle.fb_links.proofs.links.Links.forget.Goals as goal
 
-taken_off : (links : List (Option (List Step))) (id : ℕ) → id < length links → Removes links (set links id None) id
-taken_off links id within =
-    record { gone = get_or-set_same links id None None within; others = λ k other. get_or-set_other links id k None None other }
-
-pub index_mut-requires : goal.index_mut-requires
-index_mut-requires c =
-    let within : c.args.link < length c.self.inside.links.items = live_below _ _ (rw c.self.view_is c.requires) in
-    omega (arith, c.self.inside.links.ok.0)
+pub invariant_of-self-else-len : goal.invariant_of-self-else-len
+invariant_of-self-else-len c = record {
+  entries = entries_without _ _ c.args.link c.self.invariant.entries;
+  numbers =
+      numbered_after_push _ _ _ _ _ _ c.self.invariant.numbers (has_span _ _ c.args.link (rw (← c.self.view_is) at c.requires))
+      c.push_reserved.ensures.items c.push_reserved.ensures.capacity;
+}
 
 pub invariant_of-self : goal.invariant_of-self
 invariant_of-self c =
-    kept_after_push _ _ _ _ _ _ c.self.invariant (rw c.self.view_is c.requires) c.push_reserved.ensures.items c.push_reserved.ensures.capacity
+    let numbers =
+    numbered_after_push _ _ _ _ _ _ c.self.invariant.numbers (has_span _ _ c.args.link (rw (← c.self.view_is) at c.requires))
+    c.push_reserved.ensures.items c.push_reserved.ensures.capacity in
+    record { entries = (walks_of_none c.self.inside.steps.items _ _ (none_left _ c.push_reserved.new.self.items _ numbers (omega (arith, c.push_reserved.new.self.ok.0, c.self.inside.spans.ok.0, length-set c.self.inside.spans.items c.args.link None)))).0; numbers = numbers }
 
-pub returns : goal.returns
-returns c =
-    let within : c.args.link < length c.self.inside.links.items = live_below _ _ (rw c.self.view_is c.requires) in
-    rw (← c.self.view_is) (taken_off _ _ within)
+pub returns-then-len : goal.returns-then-len
+returns-then-len c =
+    let live = has_span _ _ c.args.link (rw (← c.self.view_is) at c.requires) in
+    let numbers =
+    numbered_after_push _ _ _ _ _ _ c.self.invariant.numbers live c.push_reserved.ensures.items c.push_reserved.ensures.capacity in
+    rw (← c.self.view_is) (removed_last _ _ _ _ (below_end _ _ live) (none_left _ c.push_reserved.new.self.items _ numbers (omega (arith, c.push_reserved.new.self.ok.0, c.self.inside.spans.ok.0, length-set c.self.inside.spans.items c.args.link None))))
+
+pub returns-else-len : goal.returns-else-len
+returns-else-len c =
+    let live = has_span _ _ c.args.link (rw (← c.self.view_is) at c.requires) in
+    rw (← c.self.view_is) (removed _ _ _ (below_end _ _ live))

@@ -1,43 +1,29 @@
-use Rattle.std.proofs.Common.{ℕ, ◌≡◌, ◌∙◌, ◌<◌, List, [], ◌∷◌, ◌++◌, length, set, reverse, Option, Some, None, ap, subst, arith}
-use Rattle.std.proofs.lemmas.Grind.{common_steps}
-use Rattle.std.proofs.lemmas.List.{reverse-append, get_or-set_same, get_or-set_other}
-use Rattle.fb_links.specs.declared.walk.Step.{Step}
-use Rattle.fb_links.specs.Table.{Adds, link_at}
-use Rattle.fb_links.specs.InternalKept.{AreFree, IsKept}
-use Rattle.fb_links.proofs.Numbers.{kept_after_pop}
+use Rattle.std.proofs.Common.{◌∙◌, arith}
+use Rattle.std.proofs.lemmas.Result.{MatchResult-from_err}
+use Rattle.fb_links.proofs.Spans.{grown_by, kept_stored, walks_in-unstored}
 use Rattle.fb_links.proofs.links.Links.put.Goals as goal
 
--- the number freed last is in the table, and no link has it
-unused : (links : List (Option (List Step))) (old new : List ℕ) (id before : ℕ) → IsKept links (reverse old) before
-    → old ≡ new ++ id ∷ [] → AreFree links (id ∷ reverse new)
-unused links old new id before kept popped =
-    subst (AreFree links) (ap reverse popped ∙ reverse-append new (id ∷ [])) kept.unused
-
-added_in_place : (links : List (Option (List Step))) (id : ℕ) (walk : List Step) → id < length links
-    → link_at links id ≡ None → Adds links (set links id (Some walk)) id walk
-added_in_place links id walk within none =
-    record {
-      fresh = none;
-      added = get_or-set_same links id (Some walk) None within;
-      others = λ k other. get_or-set_other links id k (Some walk) None other;
-    }
-
-pub index_mut-requires : goal.index_mut-requires
-index_mut-requires c =
-    let free = unused _ _ _ c.in-Some.id _ c.self.invariant c.in-Some.ensures.items in
-    omega (arith, free.0, c.self.inside.links.ok.0)
-
-pub invariant_of-self : goal.invariant_of-self
-invariant_of-self c =
-    kept_after_pop _ _ _ _ _ _ _ c.self.invariant c.in-Some.ensures.items c.in-Some.ensures.capacity c.requires
-
-pub returns-in-Some-clause-ok : goal.returns-in-Some-clause-ok
-returns-in-Some-clause-ok c =
-    let free = unused _ _ _ c.in-Some.id _ c.self.invariant c.in-Some.ensures.items in
-    rw (← c.self.view_is) (added_in_place _ _ _ free.0 free.1)
+pub returns-in_err-id-clause-err : goal.returns-in_err-id-clause-err
+returns-in_err-id-clause-err c =
+    MatchResult-from_err _ _ _ c.from_residual-in_err-id.ensures.0
+    (λ _. walks_in-unstored _ _ _ _
+    (grown_by c.self.inside.steps.items c.extend_from_slice.new.self.items c.args.walk.now c.in_ok-extend_from_slice.ensures.items)
+    c.self.invariant.entries c.in_err-id.ensures.err ∙ c.self.view_is)
 
 pub invariant_of-self-2 : goal.invariant_of-self-2
-invariant_of-self-2 c = grind (arith, common_steps)
+invariant_of-self-2 c = record {
+  entries =
+      (kept_stored c.self.inside.steps.items c.extend_from_slice.new.self.items c.args.walk.now _ _ c.in_ok-id.id
+      (record { start = c.len-start.result; end = c.len.result; weight = c.weight_of.result })
+      c.self.invariant.entries c.in_ok-extend_from_slice.ensures.items (omega (arith, c.self.inside.steps.ok.0))
+      (omega (arith, c.extend_from_slice.new.self.ok.0)) c.requires c.weight_of.ensures c.in_ok-id.ensures.ok).0;
+  numbers = c.in_ok-id.ensures.numbers;
+}
 
 pub returns-clause-ok : goal.returns-clause-ok
-returns-clause-ok c = grind (arith, common_steps)
+returns-clause-ok c =
+    rw (← c.self.view_is)
+    (kept_stored c.self.inside.steps.items c.extend_from_slice.new.self.items c.args.walk.now _ _ c.in_ok-id.id
+    (record { start = c.len-start.result; end = c.len.result; weight = c.weight_of.result })
+    c.self.invariant.entries c.in_ok-extend_from_slice.ensures.items (omega (arith, c.self.inside.steps.ok.0))
+    (omega (arith, c.extend_from_slice.new.self.ok.0)) c.requires c.weight_of.ensures c.in_ok-id.ensures.ok).1
