@@ -13,6 +13,7 @@ pub mod walk;
 pub use cycle::{CycleStep, LinkId, NodeId};
 pub use laws::{adding, joining, merging};
 pub use links::Links;
+pub use steps::turn_from;
 pub use walk::{Step, Walk};
 
 /// Memory ran out.

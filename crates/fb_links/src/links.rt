@@ -1,6 +1,6 @@
 ghost use Rattle.std.specs.Prelude.{◌≡◌, ◌<◌, ◌^◌, ℕ, true, List, [], length, reverse, vec_capacity, Some, IfOk, OnErr};
 ghost use Rattle.fb_links.specs.declared.walk.Step.{Step};
-ghost use Rattle.fb_links.specs.Walks.{walk_weight, start_of, end_of, share_end, joined_walk, IsChained};
+ghost use Rattle.fb_links.specs.Walks.{walk_weight, start_of, end_of, share_end, joined_walk};
 ghost use Rattle.fb_links.specs.Table.{IsLink, Adds, Removes, is_live, link_at, walk_at};
 ghost use Rattle.fb_links.specs.Merged.{AreMerged};
 ghost use Rattle.fb_links.specs.InternalKept.{AreNumbered, Stores};
@@ -21,7 +21,7 @@ pub struct Links {
     free: Vec<usize>,
     /// The steps of all walks, one walk after another. Those that no span has are of links that were forgotten.
     steps: Vec<Step>,
-    /// Room for the next walk that is made step by step.
+    /// Room for the steps of the next walk, which may hold those of the last one.
     buffer: Vec<Step>,
 }
 
@@ -68,20 +68,8 @@ impl Links {
         let _ = &self.spans;
     }
 
-    /// Makes the walk a link, under a number that no link has. Its time is that of the walk's steps.
-    pub fn make(&mut self, _alloc: Global, walk: Walk) -> Result<LinkId, NoMemory>
-        requires some { 0 < length walk }
-        requires light { walk_weight walk < 2 ^ 64 }
-        ensures ok { IfOk result (λ id. Adds self.old self.new id walk) }
-        ensures err { OnErr result (self.new ≡ self.old) }
-    {
-        // The vectors grow by the allocator that they were made with.
-        walk.keeps();
-        self.put(walk.steps())
-    }
-
-    /// Lends an empty vector for the steps of the walk that `make_buffered` takes next, with the room of the last one.
-    /// Takes no memory.
+    /// An empty vector for the steps of the walk that is made a link next, with the room of the last one's. Takes no
+    /// memory.
     pub fn take_buffer(&mut self, alloc: Global) -> Vec<Step>
         ensures empty { result.items ≡ [] }
         ensures unchanged { self.new ≡ self.old }
@@ -91,16 +79,18 @@ impl Links {
         steps
     }
 
-    /// Makes the walk a link as `make` does, and keeps the vector for the next one.
-    pub fn make_buffered(&mut self, walk: Vec<Step>) -> Result<LinkId, NoMemory>
-        requires some { 0 < length walk.items }
-        requires chained { IsChained walk.items }
-        requires light { walk_weight walk.items < 2 ^ 64 }
-        ensures ok { IfOk result (λ id. Adds self.old self.new id walk.items) }
+    /// Makes the walk a link, under a number that no link has. Its time is that of the walk's steps, which are copied: their
+    /// vector is what `take_buffer` lends next.
+    pub fn make(&mut self, _alloc: Global, walk: Walk) -> Result<LinkId, NoMemory>
+        requires some { 0 < length walk }
+        requires light { walk_weight walk < 2 ^ 64 }
+        ensures ok { IfOk result (λ id. Adds self.old self.new id walk) }
         ensures err { OnErr result (self.new ≡ self.old) }
     {
-        let made = self.put(&walk);
-        self.buffer = walk;
+        // The vectors grow by the allocator that they were made with.
+        walk.keeps();
+        let made = self.put(walk.steps());
+        self.buffer = walk.into_vec();
         made
     }
 

@@ -49,8 +49,8 @@ pub fn copied(alloc: Global, steps: &[Step]) -> Result<Vec<Step>, NoMemory>
 pub fn push_joined(steps: &mut Vec<Step>, a: Span, b: Span) -> Result<(), NoMemory>
     requires first { IsInside steps.old.items a }
     requires second { IsInside steps.old.items b }
-    ensures ok { OnOk result
-        (steps.new.items ≡ steps.old.items ++ joined_walk (walk_in steps.old.items a) (walk_in steps.old.items b)) }
+    ensures ok { OnOk result (let old = steps.old.items in
+        steps.new.items ≡ old ++ joined_walk (walk_in old a) (walk_in old b)) }
     ensures kept { take (length steps.old.items) steps.new.items ≡ steps.old.items }
 {
     let v = meeting_vertex(a.of(steps), b.of(steps));
@@ -75,7 +75,8 @@ fn is_end(steps: &[Step], v: u32) -> bool
 /// Adds a copy of the walk of a span, reversed if it does not end at the vertex.
 fn push_ending_at(steps: &mut Vec<Step>, span: Span, v: u32) -> Result<(), NoMemory>
     requires { IsInside steps.old.items span }
-    ensures ok { OnOk result (steps.new.items ≡ steps.old.items ++ ending_at v (walk_in steps.old.items span)) }
+    ensures ok { OnOk result (let old = steps.old.items in
+        steps.new.items ≡ old ++ ending_at v (walk_in old span)) }
     ensures err { OnErr result (steps.new.items ≡ steps.old.items) }
 {
     let turned = v != end_of(span.of(steps));
@@ -85,7 +86,8 @@ fn push_ending_at(steps: &mut Vec<Step>, span: Span, v: u32) -> Result<(), NoMem
 /// Adds a copy of the walk of a span, reversed if it does not begin at the vertex.
 fn push_starting_at(steps: &mut Vec<Step>, span: Span, v: u32) -> Result<(), NoMemory>
     requires { IsInside steps.old.items span }
-    ensures ok { OnOk result (steps.new.items ≡ steps.old.items ++ starting_at v (walk_in steps.old.items span)) }
+    ensures ok { OnOk result (let old = steps.old.items in
+        steps.new.items ≡ old ++ starting_at v (walk_in old span)) }
     ensures err { OnErr result (steps.new.items ≡ steps.old.items) }
 {
     let turned = v != start_of(span.of(steps));
@@ -95,8 +97,8 @@ fn push_starting_at(steps: &mut Vec<Step>, span: Span, v: u32) -> Result<(), NoM
 /// Adds a copy of the walk of a span, reversed if that is asked for.
 fn push_copy(steps: &mut Vec<Step>, span: Span, turned: bool) -> Result<(), NoMemory>
     requires { IsInside steps.old.items span }
-    ensures ok { OnOk result
-        (steps.new.items ≡ steps.old.items ++ (if turned then turned_walk (walk_in steps.old.items span) else walk_in steps.old.items span)) }
+    ensures ok { OnOk result (let walk = walk_in steps.old.items span in
+        steps.new.items ≡ steps.old.items ++ (if turned then turned_walk walk else walk)) }
     ensures err { OnErr result (steps.new.items ≡ steps.old.items) }
 {
     let from = steps.len();
@@ -107,10 +109,11 @@ fn push_copy(steps: &mut Vec<Step>, span: Span, turned: bool) -> Result<(), NoMe
     Ok(())
 }
 
-/// Reverses the walk that the steps from this place on are.
+/// Reverses the walk that begins at this place of the list: the steps from there on lead back.
 pub fn turn_from(steps: &mut Vec<Step>, from: usize)
     requires { from ≤ length steps.old.items }
-    ensures { steps.new.items ≡ take from steps.old.items ++ turned_walk (drop from steps.old.items) }
+    ensures { let old = steps.old.items in
+        steps.new.items ≡ take from old ++ turned_walk (drop from old) }
 {
     turn(&mut steps[from..]);
 }

@@ -1,9 +1,10 @@
 -- The walk back from a vertex to its source, step by step.
-use Rattle.std.proofs.Common.{◌≡◌, ℕ, ◌+◌, ◌<◌, inl, inr, true, List, [], ◌∷◌, ◌++◌, length, reverse, Option, Some, None, refl, sym, ◌∙◌, ap, subst, arith}
+use Rattle.std.proofs.Common.{◌≡◌, ℕ, ◌+◌, ◌<◌, ◌≤◌, inl, inr, true, List, [], ◌∷◌, ◌++◌, length, reverse, take, drop, Option, Some, None, refl, sym, ◌∙◌, ap, subst, arith}
 use Rattle.std.specs.List.{All}
 use Rattle.std.specs.Option.{IsSome, option_and_then}
 use Rattle.std.proofs.lemmas.Bool.{false≢true, or_left, or_right}
-use Rattle.std.proofs.lemmas.List.{reverse-append}
+use Rattle.std.proofs.lemmas.List.{drop-append-le, length-take, reverse-append, take-append-le}
+use Rattle.std.proofs.Math.Seq.{drop-length, take-length}
 use Rattle.std.proofs.lemmas.List.Elements.{All-cons, All-nil}
 use Rattle.std.proofs.lemmas.List.Sums.{sum_by-cons}
 use Rattle.fb_graph.specs.Problem.{Problem, edge_at}
@@ -17,7 +18,7 @@ use Rattle.fb_regions.specs.Walks.{IsWalk}
 use Rattle.fb_links.specs.Walks.{walk_weight}
 use Rattle.fb_graph.specs.Dual.{cover_of, leaves}
 use Rattle.fb_graph.specs.Laws.{has_real_end}
-use Rattle.fb_regions.specs.Moves.{IsSourceWalk}
+use Rattle.fb_regions.specs.Moves.{AddsSourceWalk, IsSourceWalk}
 use Rattle.fb_regions.specs.InternalNodes.{mark_of, nodes_of, radii_from}
 use Rattle.fb_regions.specs.InternalKept.{CameBy, IsAfter, IsKept, step_by}
 use Rattle.fb_regions.proofs.Moved.{mark_over, some_cover}
@@ -37,6 +38,11 @@ pub record IsBack (p : Problem) (marks : List (Option Mark)) (v at : ℕ) (steps
   pub distance : (the_mark (mark_of marks at)).distance + walk_weight (reverse steps) ≡ (the_mark (mark_of marks v)).distance
   pub leads : IsWalk p (reverse steps) at v
   pub real : All (λ s. has_real_end p (edge_at p.edges s.edge) ≡ true) (reverse steps)
+
+-- the same of the steps that were added to older ones
+pub record IsBackAfter (p : Problem) (marks : List (Option Mark)) (v at : ℕ) (old steps : List Step) : Type 0 where
+  pub front : take (length old) steps ≡ old
+  pub back : IsBack p marks v at (drop (length old) steps)
 
 some_is : (o : Option Mark) → IsSome o → o ≡ Some (the_mark o)
 some_is None h = cc
@@ -133,3 +139,38 @@ module _ (p : Problem) (regions : List Region) (marks : List (Option Mark)) (kep
           real = back.real;
         },
       )
+
+  pub back_after_start : (old : List Step) → IsSome (cover_of (nodes_of marks regions) v) → IsBackAfter p marks v v old old
+  back_after_start old h =
+      record { front = take-length old; back = subst (IsBack p marks v v) (sym (drop-length old)) (back_start h) }
+
+  longer : (old : List Step) (at : ℕ) (steps : List Step) → IsBackAfter p marks v at old steps → length old ≤ length steps
+  longer old at steps after = omega (arith, ap length after.front, length-take (length old) steps)
+
+  pub back_within_list : (old : List Step) (at : ℕ) (steps : List Step) (first : ℕ) → IsBackAfter p marks v at old steps
+      → first ≡ length old → first ≤ length steps
+  back_within_list old at steps first after is = omega (arith, is, longer old at steps after)
+
+  pub back_after_more : (old : List Step) (at : ℕ) (s : Hop) (steps more : List Step) → IsBackAfter p marks v at old steps
+      → option_and_then (λ m. m.by) (mark_of marks at) ≡ Some s → more ≡ steps ++ step_by p at s ∷ []
+      → IsBackAfter p marks v s.from old more
+  back_after_more old at s steps more after h pushed =
+      let within : length old ≤ length steps = longer old at steps after in
+      record {
+        front = ap (take (length old)) pushed ∙ (take-append-le (length old) steps (step_by p at s ∷ []) within ∙ after.front);
+        back =
+            subst (IsBack p marks v s.from)
+            (sym (ap (drop (length old)) pushed ∙ drop-append-le (length old) steps (step_by p at s ∷ []) within))
+            (back_more at s (drop (length old) steps) after.back h);
+      }
+
+  pub back_after_end : (old : List Step) (at : ℕ) (steps turned : List Step) → IsBackAfter p marks v at old steps
+      → IsSome (cover_of (nodes_of marks regions) v) → option_and_then (λ m. m.by) (mark_of marks at) ≡ None
+      → turned ≡ take (length old) steps ++ reverse (drop (length old) steps)
+      → AddsSourceWalk p (nodes_of marks regions) v old turned
+  back_after_end old at steps turned after covered h is =
+      record {
+        walk = reverse (drop (length old) steps);
+        added = is ∙ ap (λ l. l ++ reverse (drop (length old) steps)) after.front;
+        leads = back_end at (drop (length old) steps) after.back covered h;
+      }

@@ -1,5 +1,5 @@
 -- What the calls on a dual state ask for and give.
-use Rattle.std.specs.Prelude.{ℕ, ◌≡◌, ◌+◌, ◌==◌, true, List, [], ◌∷◌, All, is_some, unwrap_or, if◌then◌else◌}
+use Rattle.std.specs.Prelude.{ℕ, ◌≡◌, ◌+◌, ◌==◌, true, List, [], ◌∷◌, ◌++◌, All, is_some, unwrap_or, if◌then◌else◌}
 use Rattle.fb_graph.specs.Parity.{is_in}
 use Rattle.fb_graph.specs.Problem.{Problem, edge_at}
 use Rattle.fb_graph.specs.declared.parts.Edge.{Edge}
@@ -50,3 +50,9 @@ pub record IsWalkFrom (p : Problem) (nodes : List Node) (walk : List Step) (d v 
 -- the walk leads to the vertex from its source, some defect
 abbrev pub IsSourceWalk : Problem → List Node → ℕ → List Step → Type 0
 IsSourceWalk p nodes v walk = (d : ℕ) × IsWalkFrom p nodes walk d v
+
+-- such a walk is added to the steps, at their end
+pub record AddsSourceWalk (p : Problem) (nodes : List Node) (v : ℕ) (old new : List Step) : Type 0 where
+  pub walk : List Step
+  pub added : new ≡ old ++ walk
+  pub leads : IsSourceWalk p nodes v walk

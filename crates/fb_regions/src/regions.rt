@@ -1,4 +1,4 @@
-ghost use Rattle.std.specs.Prelude.{◌≡◌, ◌+◌, ◌-◌, ◌<◌, ◌≤◌, ◌==◌, ◌&&◌, ℕ, if◌then◌else◌, not, true, false, [], ◌∷◌, ◌++◌, length, filter, reverse, IfOk, OnOk, OnErr, IsSome, None, Some};
+ghost use Rattle.std.specs.Prelude.{◌≡◌, ◌+◌, ◌-◌, ◌<◌, ◌≤◌, ◌==◌, ◌&&◌, ℕ, if◌then◌else◌, not, true, false, [], ◌∷◌, ◌++◌, length, take, drop, filter, reverse, IfOk, OnOk, OnErr, IsSome, None, Some};
 ghost use Rattle.std.specs.List.{last_or};
 ghost use Rattle.fb_graph.specs.Parity.{is_in};
 ghost use Rattle.fb_graph.specs.Problem.{edge_at};
@@ -19,7 +19,7 @@ ghost use Rattle.fb_graph.specs.Steps.{AreExclusive, MayStep, stepped_nodes};
 ghost use Rattle.fb_graph.specs.Turns.{thinner_node};
 ghost use Rattle.fb_regions.specs.Paces.{IsAtRest, IsRepaced, pace_in, paces_of};
 ghost use Rattle.fb_regions.specs.declared.roles.Role.TheVariants.{Out};
-ghost use Rattle.fb_regions.specs.Moves.{BeginsWith, IsOver, IsSourceWalk, absorbed_over, inner_end, node_named, outer_end};
+ghost use Rattle.fb_regions.specs.Moves.{AddsSourceWalk, BeginsWith, IsOver, IsSourceWalk, absorbed_over, inner_end, node_named, outer_end};
 
 use crate::clock::{settle, settle_all, top_at};
 use crate::heads::{Link, joint_of, rejoin};
@@ -582,6 +582,17 @@ impl<S: Scope> Regions<S> {
         ensures { IfOk result (λ walk. IsSourceWalk (S.problem self.now.scope) self.now.nodes v walk) }
     {
         let mut steps = Vec::new(alloc);
+        self.push_source_walk(&mut steps, v)?;
+        Ok(Walk::from_vec(steps))
+    }
+
+    /// Adds the walk by which a covered vertex came, from its source defect, at the end of the steps.
+    pub fn push_source_walk(&self, steps: &mut Vec<Step>, v: u32) -> Result<(), NoMemory>
+        requires { IsSome (cover_of self.now.nodes v) }
+        ensures { OnOk result (AddsSourceWalk
+            (S.problem self.now.scope) self.now.nodes v steps.old.items steps.new.items) }
+    {
+        let first = steps.len();
         let mut at = v;
         while let Some(hop) = self.marks.hop_to(at) {
             let weight = self.scope.weight(hop.edge);
@@ -593,8 +604,8 @@ impl<S: Scope> Regions<S> {
             })?;
             at = hop.from;
         }
-        steps.reverse();
-        Ok(Walk::from_vec(steps))
+        reverse_from(steps, first);
+        Ok(())
     }
 
     /// Copies of the node's own layers, from the first to the top.
@@ -744,4 +755,12 @@ impl<S: Scope> Roles for Regions<S> {
             None => Role::Out,
         }
     }
+}
+
+/// Reverses the order of the steps from this place on.
+fn reverse_from(steps: &mut Vec<Step>, first: usize)
+    requires { first ≤ length steps.old.items }
+    ensures { steps.new.items ≡ take first steps.old.items ++ reverse (drop first steps.old.items) }
+{
+    steps[first..].reverse();
 }

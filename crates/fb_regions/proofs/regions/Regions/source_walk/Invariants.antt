@@ -1,9 +1,0 @@
-use Rattle.fb_regions.specs.InternalNodes.{mark_of}
-use Rattle.fb_regions.proofs.Backward.{IsBack, the_mark}
-use Rattle.fb_regions.proofs.regions.Regions.source_walk.Given as goal
-
-abbrev pub invariant-loop-hop : goal.invariant-loop-hop
-invariant-loop-hop g l = IsBack (g.S.Scope.problem l.self-inside.scope) l.self-inside.marks l.v l.at l.steps.items
-
-abbrev pub decreases-loop-hop : goal.decreases-loop-hop
-decreases-loop-hop g l = (the_mark (mark_of l.self-inside.marks l.at)).rank
