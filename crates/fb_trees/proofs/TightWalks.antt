@@ -1,8 +1,9 @@
 -- The source walks over a tight edge are a tight link.
-use Rattle.std.proofs.Common.{ℕ, ◌≡◌, ◌≢◌, ◌<◌, ◌≤◌, ◌^◌, inl, inr, true, false, List, [], ◌∷◌, ◌++◌, map, reverse, length, All, Option, Some, None, is_some, if◌then◌else◌, refl, sym, ap, ◌∙◌, subst, append_assoc, arith}
+use Rattle.std.proofs.Common.{ℕ, ◌≡◌, ◌≢◌, ◌<◌, ◌≤◌, ◌^◌, inl, inr, true, false, List, [], ◌∷◌, ◌++◌, map, reverse, take, drop, length, All, Option, Some, None, is_some, if◌then◌else◌, refl, sym, ap, ◌∙◌, subst, append_assoc, arith}
 use Rattle.std.specs.Option.{IsSome}
 use Rattle.std.proofs.lemmas.List.{map-append, length-append}
 use Rattle.std.proofs.lemmas.List.Elements.{All-append, All-push}
+use Rattle.std.proofs.Math.Seq.{drop-append_seam, take-append_seam}
 use Rattle.std.proofs.lemmas.List.Sums.{sum_by_push}
 use Rattle.fb_graph.specs.Parity.{is_in}
 use Rattle.fb_graph.specs.Problem.{Problem, crosses, edge_at}
@@ -217,3 +218,20 @@ module _ (p : Problem) (nodes : List Node) (k a v : ℕ) (s : Step) (dual : IsDu
     pub out_chained : IsChained (walk ++ s ∷ [])
     out_chained =
         Runs-chained (walk ++ s ∷ []) source.0 s.to (out_runs p nodes a s dual out_over walk source.0 source.1)
+
+-- as the code adds the parts of a walk over sources to an empty list, and turns the last one
+pub walk_over_sources : (none one two three whole up down : List Step) (step : Step) (back : ℕ) → none ≡ []
+    → one ≡ none ++ up → two ≡ one ++ step ∷ [] → back ≡ length two → three ≡ two ++ down
+    → whole ≡ take back three ++ turned_walk (drop back three) → whole ≡ (up ++ step ∷ []) ++ turned_walk down
+walk_over_sources none one two three whole up down step back empty first over at last turned =
+    turned ∙ (ap (λ n. take n three ++ turned_walk (drop n three)) at
+    ∙ (ap (λ l. take (length two) l ++ turned_walk (drop (length two) l)) last
+    ∙ (ap (λ l. l ++ turned_walk (drop (length two) (two ++ down))) (take-append_seam two down)
+    ∙ (ap (λ l. two ++ turned_walk l) (drop-append_seam two down) ∙ ap (λ l. l ++ turned_walk down) whole_up))))
+  where
+    whole_up : two ≡ up ++ step ∷ []
+    whole_up = over ∙ ap (λ l. l ++ step ∷ []) (first ∙ ap (λ l. l ++ up) empty)
+
+pub walk_over_source : (none one two up : List Step) (step : Step) → none ≡ [] → one ≡ none ++ up → two ≡ one ++ step ∷ []
+    → two ≡ up ++ step ∷ []
+walk_over_source none one two up step empty first over = over ∙ ap (λ l. l ++ step ∷ []) (first ∙ ap (λ l. l ++ up) empty)

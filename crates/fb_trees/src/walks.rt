@@ -1,11 +1,10 @@
 //! The links that are made over a tight edge, and their walks.
 
-ghost use Rattle.std.specs.Prelude.{◌≡◌, ◌++◌, ◌<◌, ℕ, length, IfOk, OnOk, MatchResult};
-ghost use Rattle.fb_links.specs.Walks.{turned_walk};
+ghost use Rattle.std.specs.Prelude.{◌≡◌, ◌<◌, ℕ, [], length, IfOk, MatchResult};
 ghost use Rattle.fb_trees.specs.InternalMetWalks.{IsAlong, IsBetween, IsLinkedBetween, IsLinkedOut, IsMetWalk, IsOut, IsOutWalk, IsOverSource, IsOverSources};
 
 use fb_graph::{NoMemory, Scope};
-use fb_links::{LinkId, Links};
+use fb_links::{LinkId, Links, turn_from};
 use fb_regions::{Regions, Step, Walk};
 use std::alloc::Global;
 
@@ -21,7 +20,8 @@ pub fn link_between<S: Scope>(
     ensures { MatchResult result (IsLinkedBetween (S.problem regions.now.scope) regions.now.nodes edge links.old links.new)
         (λ _. links.new ≡ links.old) }
 {
-    let walk = met_walk(alloc, regions, edge)?;
+    let buffer = links.take_buffer(alloc);
+    let walk = met_walk(regions, buffer, edge)?;
     links.make(alloc, walk)
 }
 
@@ -37,24 +37,28 @@ pub fn link_out<S: Scope>(
     ensures { MatchResult result (IsLinkedOut (S.problem regions.now.scope) regions.now.nodes edge links.old links.new)
         (λ _. links.new ≡ links.old) }
 {
-    let walk = out_walk(alloc, regions, edge)?;
+    let buffer = links.take_buffer(alloc);
+    let walk = out_walk(regions, buffer, edge)?;
     links.make(alloc, walk)
 }
 
 /// The walk of a tight link between the two outer nodes over the ends of a tight edge: from the source of the edge's
-/// first end, over the edge, and back to the source of its second end.
-fn met_walk<S: Scope>(alloc: Global, regions: &Regions<S>, edge: u32) -> Result<Walk, NoMemory>
-    requires { (a b : ℕ) × IsBetween (S.problem regions.now.scope) regions.now.nodes edge a b }
+/// first end, over the edge, and back to the source of its second end. It takes the room of the buffer.
+fn met_walk<S: Scope>(regions: &Regions<S>, buffer: Vec<Step>, edge: u32) -> Result<Walk, NoMemory>
+    requires between { (a b : ℕ) × IsBetween (S.problem regions.now.scope) regions.now.nodes edge a b }
+    requires empty { buffer.items ≡ [] }
     ensures sources { IfOk result (IsOverSources (S.problem regions.now.scope) regions.now.nodes edge) }
     ensures between { IfOk result (λ walk. (a b : ℕ) → IsBetween (S.problem regions.now.scope) regions.now.nodes edge a b
         → IsMetWalk (S.problem regions.now.scope) regions.now.nodes a b walk) }
 {
     regions.keeps();
+    let mut steps = buffer;
     let step = step_along(regions, edge);
-    let mut steps = regions.source_walk(alloc, step.from)?.into_vec();
+    regions.push_source_walk(&mut steps, step.from)?;
     steps.push(step)?;
-    let back = regions.source_walk(alloc, step.to)?;
-    push_turned(&mut steps, back.steps())?;
+    let back = steps.len();
+    regions.push_source_walk(&mut steps, step.to)?;
+    turn_from(&mut steps, back);
     Ok(Walk::from_vec(steps))
 }
 
@@ -74,33 +78,18 @@ fn step_along<S: Scope>(regions: &Regions<S>, edge: u32) -> Step
 }
 
 /// The walk of a tight link from the outer node over the inner end of a tight edge to the boundary: from the source of
-/// that end, and over the edge.
-fn out_walk<S: Scope>(alloc: Global, regions: &Regions<S>, edge: u32) -> Result<Walk, NoMemory>
-    requires { (a v : ℕ) × IsOut (S.problem regions.now.scope) regions.now.nodes edge a v }
+/// that end, and over the edge. It takes the room of the buffer.
+fn out_walk<S: Scope>(regions: &Regions<S>, buffer: Vec<Step>, edge: u32) -> Result<Walk, NoMemory>
+    requires out { (a v : ℕ) × IsOut (S.problem regions.now.scope) regions.now.nodes edge a v }
+    requires empty { buffer.items ≡ [] }
     ensures source { IfOk result (IsOverSource (S.problem regions.now.scope) regions.now.nodes edge) }
     ensures out { IfOk result (λ walk. (a v : ℕ) → IsOut (S.problem regions.now.scope) regions.now.nodes edge a v
         → IsOutWalk (S.problem regions.now.scope) regions.now.nodes a v walk) }
 {
     regions.keeps();
+    let mut steps = buffer;
     let step = regions.step_over(edge);
-    let mut steps = regions.source_walk(alloc, step.from)?.into_vec();
+    regions.push_source_walk(&mut steps, step.from)?;
     steps.push(step)?;
     Ok(Walk::from_vec(steps))
-}
-
-/// Adds the steps of a walk gone back.
-fn push_turned(steps: &mut Vec<Step>, walk: &[Step]) -> Result<(), NoMemory>
-    ensures { OnOk result (steps.new.items ≡ steps.old.items ++ turned_walk walk.now) }
-{
-    let mut left = walk.len();
-    while left > 0 {
-        left -= 1;
-        let step = walk[left];
-        steps.push(Step {
-            from: step.to,
-            to: step.from,
-            ..step
-        })?;
-    }
-    Ok(())
 }

@@ -1,4 +1,3 @@
-use Rattle.std.proofs.Common.{◌∙◌}
 use Rattle.fb_regions.proofs.ChainedWalks.{source_chained}
 use Rattle.fb_regions.proofs.regions.Regions.source_walk.Goals as goal
 
