@@ -1,10 +1,10 @@
 -- The walks that spans of a table of steps hold, when the table grows, and when spans are stored or taken off.
-use Rattle.std.proofs.Common.{ℕ, ◌+◌, ◌-◌, ◌<◌, ◌≤◌, ◌≡◌, ◌==◌, Bool, true, false, cond, List, [], ◌∷◌, ◌++◌, length, set, take, drop, Option, Some, None, All, arith, refl, sym, ap, ◌∙◌, subst, inl, inr}
+use Rattle.std.proofs.Common.{ℕ, ◌+◌, ◌-◌, ◌<◌, ◌≤◌, ◌≡◌, ◌==◌, Bool, true, false, cond, List, [], ◌∷◌, ◌++◌, length, get_or, set, take, drop, Option, Some, None, All, arith, refl, sym, ap, ◌∙◌, subst, inl, inr}
 use Rattle.std.specs.Prelude.{◌^◌, count_by, is_some, option_map, unwrap_or}
 use Rattle.std.proofs.lemmas.Bool.{cases_lt, eqb-true, false≢true}
-use Rattle.std.proofs.lemmas.List.{drop-append-le, take-append-le, length-drop, length-take, length-append, get_or-set_same, get_or-set_other, get_or_past, take-append-drop}
+use Rattle.std.proofs.lemmas.List.{drop-append-le, take-append-le, length-drop, length-take, length-append, length-map, map-append, map_more, get_or-set_same, get_or-set_other, get_or_past, take-append-drop}
 use Rattle.std.proofs.lemmas.List.Sums.{sum_by-cons}
-use Rattle.std.proofs.lemmas.List.Elements.{All-nil, All-cons, All-head, All-tail, All-get_or, All-from_get_or, All-set, All-weaker}
+use Rattle.std.proofs.lemmas.List.Elements.{All-nil, All-cons, All-head, All-tail, All-get_or, All-from_get_or, All-set, All-push, All-weaker}
 use Rattle.std.proofs.lemmas.Option.{none-some, same_Some}
 use Rattle.std.proofs.Math.Seq.{drop-append_seam, take-append_seam, take-length}
 use Rattle.std.proofs.Math.ListN.{get_or-map}
@@ -13,7 +13,7 @@ use Rattle.fb_links.specs.declared.walk.Step.{Step}
 use Rattle.fb_links.specs.Walks.{walk_weight, share_end, joined_walk}
 use Rattle.fb_links.specs.Table.{IsLink, Adds, Removes, is_live, link_at, walk_at}
 use Rattle.fb_links.specs.Laws.{IsJoinedWalk}
-use Rattle.fb_links.specs.InternalKept.{IsEntry, IsInside, IsSpan, Stores, span_at, walk_in, walks_in}
+use Rattle.fb_links.specs.InternalKept.{AreFree, AreNumbered, IsEntry, IsInside, IsPacked, IsSpan, Stores, span_at, walk_in, walks_in}
 use Rattle.fb_links.proofs.Lists.{differ}
 use Rattle.fb_links.proofs.Numbers.{Spans, below_end}
 use Rattle.fb_links.proofs.Joins.{walk_joined, joined_weight}
@@ -271,3 +271,88 @@ joined_spans steps spans links a b first second is entries at_a at_b share light
 
     whole : IsJoinedWalk (walk_in steps first) (walk_in steps second)
     whole = walk_joined (walk_in steps first) (walk_in steps second) one.link other.link meet
+
+walks_in-take : (steps : List Step) (spans : Spans) (i : ℕ) (o : Option Span) → i < length spans → get_or spans i None ≡ o
+    → walks_in steps (take (i + 1) spans) ≡ walks_in steps (take i spans) ++ option_map (walk_in steps) o ∷ []
+walks_in-take steps spans i o within is =
+    map_more (option_map (walk_in steps)) spans i None within
+    ∙ ap (λ x. walks_in steps (take i spans) ++ option_map (walk_in steps) x ∷ []) is
+
+-- a number without a walk has no span
+no_span : (steps : List Step) (spans : Spans) (id : ℕ) → link_at (walks_in steps spans) id ≡ None → span_at spans id ≡ None
+no_span steps spans id none = by (span_at spans id) refl
+  where
+    by : (o : Option Span) → span_at spans id ≡ o → o ≡ None
+    by None is = refl
+    by (Some s) is =
+        absurd (none-some (walk_in steps s)
+        (sym none ∙ (link_at-walks_in steps spans id ∙ ap (option_map (walk_in steps)) is)))
+
+links_counted : (steps : List Step) (spans : Spans) → count_by is_some (walks_in steps spans) ≡ count_by is_some spans
+links_counted steps [] = refl
+links_counted steps (o ∷ os) =
+    omega (arith, sum_by-cons (λ (x : Option (List Step)). cond {A = ℕ} (is_some x) 1 0) (option_map (walk_in steps) o) (walks_in steps os), sum_by-cons (λ (x : Option Span). cond {A = ℕ} (is_some x) 1 0) o os, ap {A = Bool} (λ b. cond {A = ℕ} b 1 0) (is_some-option_map steps o), links_counted steps os)
+
+-- the walks are copied to another table, one after another
+pub packed_none : (steps : List Step) (spans : Spans) (i : ℕ) (more : List Step) (new after : Spans)
+    → IsPacked steps (take i spans) more new → i < length spans → get_or spans i None ≡ None → after ≡ new ++ None ∷ []
+    → IsPacked steps (take (i + 1) spans) more after
+packed_none steps spans i more new after packed within none pushed =
+    record {
+      entries =
+          subst (All (IsEntry more)) (sym pushed) (All-push (IsEntry more) new None packed.entries tt);
+      same =
+          ap (walks_in more) pushed
+          ∙ (map-append (option_map (walk_in more)) new (None ∷ [])
+          ∙ (ap (λ l. l ++ None ∷ []) packed.same ∙ sym (walks_in-take steps spans i None within none)));
+    }
+
+pub packed_some : (steps : List Step) (spans : Spans) (i : ℕ) (old more : List Step) (new after : Spans) (span copy : Span)
+    → IsPacked steps (take i spans) old new → i < length spans → get_or spans i None ≡ Some span → IsSpan steps span
+    → more ≡ old ++ walk_in steps span → copy.start ≡ length old → copy.end ≡ length more → copy.weight ≡ span.weight
+    → after ≡ new ++ Some copy ∷ [] → IsPacked steps (take (i + 1) spans) more after
+packed_some steps spans i old more new after span copy packed within some kept added start end weight pushed =
+    record {
+      entries =
+          subst (All (IsEntry more)) (sym pushed)
+          (All-push (IsEntry more) new (Some copy) (entries_grown old more new grown packed.entries) is.0);
+      same =
+          ap (walks_in more) pushed
+          ∙ (map-append (option_map (walk_in more)) new (Some copy ∷ [])
+          ∙ (ap (λ l. l ++ Some (walk_in more copy) ∷ []) (walks_in-grown old more new grown packed.entries ∙ packed.same)
+          ∙ (ap (λ w. walks_in steps (take i spans) ++ Some w ∷ []) is.1
+          ∙ sym (walks_in-take steps spans i (Some span) within some))));
+    }
+  where
+    grown : take (length old) more ≡ old
+    grown = grown_by old more (walk_in steps span) added
+
+    is : IsSpan more copy × (walk_in more copy ≡ walk_in steps span)
+    is = span_added old more (walk_in steps span) copy added start end kept.link (weight ∙ kept.weighs)
+
+-- the numbers are those of the walks
+pub numbered_packed : (steps more : List Step) (spans new : Spans) (free : List ℕ) (capacity : ℕ)
+    → walks_in more new ≡ walks_in steps spans → AreNumbered spans free capacity → AreNumbered new free capacity
+numbered_packed steps more spans new free capacity same kept =
+    record {
+      unused = free_packed free kept.unused;
+      counted = omega (arith, long, counted, kept.counted);
+      room = omega (arith, long, kept.room);
+    }
+  where
+    long : length new ≡ length spans
+    long =
+        sym (length-map new (option_map (walk_in more)))
+        ∙ (ap length same ∙ length-map spans (option_map (walk_in steps)))
+
+    counted : count_by is_some new ≡ count_by is_some spans
+    counted = sym (links_counted more new) ∙ (ap (count_by is_some) same ∙ links_counted steps spans)
+
+    free_packed : (ids : List ℕ) → AreFree spans ids → AreFree new ids
+    free_packed [] unused = tt
+    free_packed (id ∷ ids) (below, none, apart, rest) = (
+      subst (λ n. id < n) (sym long) below,
+      no_span more new id (ap (λ l. link_at l id) same ∙ (link_at-walks_in steps spans id ∙ ap (option_map (walk_in steps)) none)),
+      apart,
+      free_packed ids rest,
+    )

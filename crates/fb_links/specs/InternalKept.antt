@@ -55,3 +55,9 @@ pub record Stores (old new : List (Option Span)) (id : ℕ) (span : Span) : Type
   pub fresh : span_at old id ≡ None
   pub added : span_at new id ≡ Some span
   pub others : (k : ℕ) → k ≢ id → span_at new k ≡ span_at old k
+
+-- other spans have the same walks in another table of steps
+pub record IsPacked (steps : List Step) (spans : List (Option Span)) (new_steps : List Step) (new_spans : List (Option Span))
+    : Type 0 where
+  pub entries : All (IsEntry new_steps) new_spans
+  pub same : walks_in new_steps new_spans ≡ walks_in steps spans

@@ -1,9 +1,9 @@
-ghost use Rattle.std.specs.Prelude.{◌≡◌, ◌<◌, ◌^◌, ℕ, true, List, [], length, reverse, vec_capacity, Some, IfOk, OnErr};
+ghost use Rattle.std.specs.Prelude.{◌≡◌, ◌<◌, ◌^◌, ℕ, true, List, [], length, reverse, vec_capacity, Some, All, IfOk, OnOk, OnErr};
 ghost use Rattle.fb_links.specs.declared.walk.Step.{Step};
 ghost use Rattle.fb_links.specs.Walks.{walk_weight, start_of, end_of, share_end, joined_walk};
 ghost use Rattle.fb_links.specs.Table.{IsLink, Adds, Removes, is_live, link_at, walk_at};
 ghost use Rattle.fb_links.specs.Merged.{AreMerged};
-ghost use Rattle.fb_links.specs.InternalKept.{AreNumbered, Stores};
+ghost use Rattle.fb_links.specs.InternalKept.{AreNumbered, IsEntry, IsPacked, Stores};
 
 use crate::span::{Span, span_of};
 use crate::steps::{copied, end_of, push_joined, start_of, weight_of};
@@ -21,9 +21,17 @@ pub struct Links {
     free: Vec<usize>,
     /// The steps of all walks, one walk after another. Those that no span has are of links that were forgotten.
     steps: Vec<Step>,
+    /// How many of the steps are of links that were forgotten.
+    unused: usize,
     /// Room for the steps of the next walk, which may hold those of the last one.
     buffer: Vec<Step>,
+    /// Room for the spans and the steps when those of forgotten links are left out.
+    spare_spans: Vec<Option<Span>>,
+    spare_steps: Vec<Step>,
 }
+
+/// The table may have this many steps of forgotten links, however few it has of others.
+const FEW_STEPS: usize = 64;
 
 impl Model for Links {
     ghost use Rattle.std.specs.Prelude.{List, Option, reverse, vec_capacity};
@@ -46,7 +54,10 @@ impl Links {
             spans: Vec::new(alloc),
             free: Vec::new(alloc),
             steps: Vec::new(alloc),
+            unused: 0,
             buffer: Vec::new(alloc),
+            spare_spans: Vec::new(alloc),
+            spare_steps: Vec::new(alloc),
         })
     }
 
@@ -58,6 +69,7 @@ impl Links {
         links.spans.clear();
         links.free.clear();
         links.steps.clear();
+        links.unused = 0;
         links
     }
 
@@ -89,6 +101,7 @@ impl Links {
     {
         // The vectors grow by the allocator that they were made with.
         walk.keeps();
+        self.close_gaps()?;
         let made = self.put(walk.steps());
         self.buffer = walk.into_vec();
         made
@@ -104,30 +117,23 @@ impl Links {
         ensures ok { IfOk result (λ id. Adds self.old self.new id (joined_walk (walk_at self.old a) (walk_at self.old b))) }
         ensures err { OnErr result (self.new ≡ self.old) }
     {
-        // The vectors grow by the allocator that they were made with.
-        let first = span_of(&self.spans, a as usize);
-        let second = span_of(&self.spans, b as usize);
-        let start = self.steps.len();
-        push_joined(&mut self.steps, first, second)?;
-        let joined = Span {
-            start,
-            end: self.steps.len(),
-            weight: first.weight + second.weight,
-        };
-        let id = store(&mut self.spans, &mut self.free, joined)?;
-        Ok(id as LinkId)
+        self.close_gaps()?;
+        self.put_joined(a, b)
     }
 
-    /// Removes the link, whose number may then be used again. Takes constant time and no memory: the table keeps its
-    /// steps until it has no link.
+    /// Removes the link, whose number may then be used again. Takes constant time and no memory: a later call that adds a
+    /// link leaves out the steps of those that were removed.
     pub fn forget(&mut self, link: LinkId)
         requires { is_live self.old link ≡ true }
         ensures { Removes self.old self.new link }
     {
+        let span = span_of(&self.spans, link as usize);
         self.spans[link as usize] = None;
         self.free.push_reserved(link as usize);
+        self.unused = self.unused.saturating_add(span.end - span.start);
         if self.free.len() == self.spans.len() {
             self.steps.clear();
+            self.unused = 0;
         }
     }
 
@@ -168,6 +174,7 @@ impl Links {
         pairs.reverse();
         spare.free.clear();
         spare.steps.clear();
+        spare.unused = 0;
         Ok((links, pairs, spare))
     }
 
@@ -222,6 +229,77 @@ impl Links {
         let id = store(&mut self.spans, &mut self.free, span)?;
         Ok(id as LinkId)
     }
+
+    /// Adds the joined walk of the two links, under a number that no link has.
+    fn put_joined(&mut self, a: LinkId, b: LinkId) -> Result<LinkId, NoMemory>
+        requires first { is_live self.old a ≡ true }
+        requires second { is_live self.old b ≡ true }
+        requires meet { share_end (walk_at self.old a) (walk_at self.old b) ≡ true }
+        requires light { walk_weight (joined_walk (walk_at self.old a) (walk_at self.old b)) < 2 ^ 64 }
+        ensures ok { IfOk result (λ id. Adds self.old self.new id (joined_walk (walk_at self.old a) (walk_at self.old b))) }
+        ensures err { OnErr result (self.new ≡ self.old) }
+    {
+        let first = span_of(&self.spans, a as usize);
+        let second = span_of(&self.spans, b as usize);
+        let start = self.steps.len();
+        push_joined(&mut self.steps, first, second)?;
+        let joined = Span {
+            start,
+            end: self.steps.len(),
+            weight: first.weight + second.weight,
+        };
+        let id = store(&mut self.spans, &mut self.free, joined)?;
+        Ok(id as LinkId)
+    }
+
+    /// Leaves out the steps of forgotten links if they are more than half of the table's, so that this takes constant time
+    /// for each step that was added. The links stay, with their numbers.
+    fn close_gaps(&mut self) -> Result<(), NoMemory>
+        ensures { self.new ≡ self.old }
+    {
+        if self.unused <= FEW_STEPS || self.unused <= self.steps.len() / 2 {
+            return Ok(());
+        }
+        self.spare_spans.clear();
+        self.spare_steps.clear();
+        pack(
+            &self.spans,
+            &self.steps,
+            &mut self.spare_spans,
+            &mut self.spare_steps,
+        )?;
+        mem::swap(&mut self.spans, &mut self.spare_spans);
+        mem::swap(&mut self.steps, &mut self.spare_steps);
+        self.unused = 0;
+        Ok(())
+    }
+}
+
+/// Copies the walks of the spans to another table, one after another.
+fn pack(
+    spans: &[Option<Span>],
+    steps: &[Step],
+    new_spans: &mut Vec<Option<Span>>,
+    new_steps: &mut Vec<Step>,
+) -> Result<(), NoMemory>
+    requires entries { All (IsEntry steps.now) spans.now }
+    requires no_spans { new_spans.old.items ≡ [] }
+    ensures { OnOk result (IsPacked steps.now spans.now new_steps.new.items new_spans.new.items) }
+{
+    for entry in spans {
+        let Some(span) = entry else {
+            new_spans.push(None)?;
+            continue;
+        };
+        let start = new_steps.len();
+        new_steps.extend_from_slice(span.of(steps))?;
+        new_spans.push(Some(Span {
+            start,
+            end: new_steps.len(),
+            weight: span.weight,
+        }))?;
+    }
+    Ok(())
 }
 
 /// Stores the span under a number that no link has: the one freed last, if any is free.

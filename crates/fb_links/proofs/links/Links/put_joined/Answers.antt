@@ -3,7 +3,7 @@ use Rattle.std.proofs.lemmas.Result.{MatchResult-from_err}
 use Rattle.fb_links.specs.InternalKept.{walk_in}
 use Rattle.fb_links.specs.Walks.{joined_walk}
 use Rattle.fb_links.proofs.Spans.{JoinsSpans, entries_grown, entries_unstored, joined_spans, kept_stored, walks_in-grown, walks_in-unstored}
-use Rattle.fb_links.proofs.links.Links.join_ends.Goals as goal
+use Rattle.fb_links.proofs.links.Links.put_joined.Goals as goal
 
 pub invariant_of-self : goal.invariant_of-self
 invariant_of-self c = record {
