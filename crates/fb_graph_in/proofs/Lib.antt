@@ -1,1 +1,3 @@
+pub mod TokenLists
+pub mod TokenMembers
 pub mod Triples

@@ -1,3 +1,4 @@
 pub mod FaultTexts
 pub mod GraphText
 pub mod InternalNumbers
+pub mod InternalTokens

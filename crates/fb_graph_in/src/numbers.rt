@@ -7,6 +7,7 @@ ghost use Rattle.fb_graph_in.specs.InternalNumbers.{numbers_from};
 
 use crate::entries::{edges, virtuals};
 use crate::faults::{Member, Place, TextFault};
+use crate::tokens::numbers_by_tokens;
 use fb_json::{MOST_TEXT_BYTES, NoValue, read_value};
 use serde_json::Value;
 use std::alloc::Global;
@@ -81,6 +82,9 @@ pub fn read_numbers(alloc: Global, bytes: &[u8]) -> Result<Numbers, TextFault>
 {
     if bytes.len() > MOST_TEXT_BYTES {
         return Err(TextFault::TooLong);
+    }
+    if let Some(numbers) = numbers_by_tokens(alloc, bytes)? {
+        return Ok(numbers);
     }
     match read_value(alloc, bytes) {
         Ok(value) => numbers_in(alloc, &value),

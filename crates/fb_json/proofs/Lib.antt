@@ -1,1 +1,3 @@
+pub mod JsonLoops
+pub mod NumberTexts
 pub mod Readings

@@ -2,6 +2,8 @@
 #![tactic(auto)]
 
 pub mod laws;
+pub mod number_tokens;
 pub mod text;
 
+pub use number_tokens::{next_natural, next_whole};
 pub use text::{MOST_TEXT_BYTES, NoValue, read_value};
