@@ -7,11 +7,12 @@ use Rattle.json.specs.Json.{parse_map, members, value}
 use Rattle.json.proofs.Grammar.{value-begin_object}
 use Rattle.serde_json.specs.Data.{Members, no_members, object, put}
 use Rattle.serde_json.specs.Read.{of_json, of_members, converted, read}
+use Rattle.fb_json.specs.NumberTokens.{natural_data, list_data}
 use Rattle.fb_json.proofs.JsonLoops.{converted-object, whole_read}
 use Rattle.serde_json.proofs.Views.{get_member-put, get_member-put_other}
 use Rattle.fb_graph_in.specs.GraphText.{numbers_of}
 use Rattle.fb_graph_in.specs.declared.faults.Place.TheVariants as place
-use Rattle.fb_graph_in.specs.InternalTokens.{natural_data, edge_data, list_data, Holds}
+use Rattle.fb_graph_in.specs.InternalTokens.{edge_data, Holds}
 use Rattle.fb_graph_in.proofs.TokenLists.{entries_of-naturals, entries_of-edges}
 
 pub holds_none : Holds no_members None None None

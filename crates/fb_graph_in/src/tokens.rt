@@ -5,14 +5,14 @@ ghost use Rattle.json.specs.Json.{after_end_array, members};
 ghost use Rattle.serde_json.specs.Data.{Data, Members, no_members, object, put};
 ghost use Rattle.serde_json.specs.Read.{converted, of_members, read};
 ghost use Rattle.fb_json.specs.JsonText.{value_of};
-ghost use Rattle.fb_json.specs.NumberTokens.{Begins};
+ghost use Rattle.fb_json.specs.NumberTokens.{Begins, list_data};
 ghost use Rattle.fb_graph_in.specs.GraphText.{numbers_of};
-ghost use Rattle.fb_graph_in.specs.InternalTokens.{Holds, edge_data, list_data, natural_data};
+ghost use Rattle.fb_graph_in.specs.InternalTokens.{Holds, edge_data};
 ghost use Rattle.json.specs.Json as json;
 
 use crate::numbers::Numbers;
 use fb_graph::NoMemory;
-use fb_json::{next_natural, next_whole};
+use fb_json::{next_natural, next_naturals, next_whole};
 use json::{Reader, Scratch, Token};
 use std::alloc::Global;
 
@@ -121,25 +121,6 @@ fn take_member(
         return Ok(false);
     }
     Ok(true)
-}
-
-/// The list of whole numbers of at least 0 that comes next, if one does.
-fn next_naturals(alloc: Global, reader: &mut Reader<'_>) -> Result<Option<Vec<u64>>, NoMemory>
-    ensures value { IfOk result (λ found. IfSome found (λ v. (depth : ℕ) → 0 < depth
-        → Begins depth reader.old (list_data natural_data v.items) reader.new)) }
-    ensures shorter { IfOk result (λ found. OnSome found (length reader.new < length reader.old)) }
-{
-    let Some(Token::BeginArray) = reader.next() else {
-        return Ok(None);
-    };
-    let mut found = Vec::new(alloc);
-    'entries: while !reader.take_end_array() {
-        let Some(entry) = next_natural(reader) else {
-            return Ok(None);
-        };
-        found.push(entry)?;
-    }
-    Ok(Some(found))
 }
 
 /// The list of edges that comes next, if one does.

@@ -1,3 +1,4 @@
 pub mod JsonLoops
+pub mod ListTokens
 pub mod NumberTexts
 pub mod Readings

@@ -5,5 +5,5 @@ pub mod laws;
 pub mod number_tokens;
 pub mod text;
 
-pub use number_tokens::{next_natural, next_whole};
+pub use number_tokens::{next_natural, next_naturals, next_whole};
 pub use text::{MOST_TEXT_BYTES, NoValue, read_value};

@@ -1,15 +1,16 @@
 //! The numbers among the tokens of a text, read without a value of the whole text.
 
-ghost use Rattle.std.specs.Prelude.{◌≡◌, ◌==◌, ◌<◌, ℕ, length, slice_index, true, None, Some, IfSome, OnSome};
+ghost use Rattle.std.specs.Prelude.{◌≡◌, ◌==◌, ◌<◌, ℕ, length, slice_index, true, None, Some, IfOk, IfSome, OnSome};
 ghost use Rattle.json.specs.Json.{after_end_array};
 ghost use Rattle.serde_json.specs.Data.{number, unsigned};
 ghost use Rattle.serde_json.specs.Find.{of_integer};
 ghost use Rattle.serde_json.specs.Read.{number_from, number_of};
 ghost use Rattle.fast_float.specs.Text.{scan};
-ghost use Rattle.fb_json.specs.NumberTokens.{Begins};
+ghost use Rattle.fb_json.specs.NumberTokens.{Begins, list_data, natural_data};
 
 use fast_float::Numeral;
 use json::{Reader, Token};
+use std::alloc::{AllocError, Global};
 
 /// The whole number of at least 0 that comes next, if one does.
 pub fn next_natural(reader: &mut Reader<'_>) -> Option<u64>
@@ -35,6 +36,25 @@ pub fn next_whole(reader: &mut Reader<'_>) -> Option<i128>
         return None;
     };
     whole(text.as_bytes())
+}
+
+/// The list of whole numbers of at least 0 that comes next, if one does.
+pub fn next_naturals(alloc: Global, reader: &mut Reader<'_>) -> Result<Option<Vec<u64>>, AllocError>
+    ensures value { IfOk result (λ found. IfSome found (λ v. (depth : ℕ) → 0 < depth
+        → Begins depth reader.old (list_data natural_data v.items) reader.new)) }
+    ensures shorter { IfOk result (λ found. OnSome found (length reader.new < length reader.old)) }
+{
+    let Some(Token::BeginArray) = reader.next() else {
+        return Ok(None);
+    };
+    let mut found = Vec::new(alloc);
+    'entries: while !reader.take_end_array() {
+        let Some(entry) = next_natural(reader) else {
+            return Ok(None);
+        };
+        found.push(entry)?;
+    }
+    Ok(Some(found))
 }
 
 /// The whole number of at least 0 that a number's text writes.

@@ -2,8 +2,8 @@ use Rattle.std.proofs.Common.{◌≡◌, ◌∷◌, arith, rules}
 use Rattle.json.specs.Token.{Token}
 use Rattle.serde_json.specs.Data.{number}
 use Rattle.serde_json.specs.Find.{of_integer}
-use Rattle.fb_json.specs.NumberTokens.{Begins}
-use Rattle.fb_graph_in.specs.InternalTokens.{natural_data, edge_data}
+use Rattle.fb_json.specs.NumberTokens.{Begins, natural_data}
+use Rattle.fb_graph_in.specs.InternalTokens.{edge_data}
 use Rattle.fb_graph_in.proofs.TokenLists.{edge_read}
 use Rattle.fb_graph_in.proofs.tokens.next_edge.Goals as goal
 

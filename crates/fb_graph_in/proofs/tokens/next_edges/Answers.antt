@@ -3,7 +3,7 @@ use Rattle.json.specs.Token.{Token}
 use Rattle.json.specs.Json.{after_end_array}
 use Rattle.fb_json.specs.NumberTokens.{Begins}
 use Rattle.fb_graph_in.specs.InternalTokens.{edge_data}
-use Rattle.fb_graph_in.proofs.TokenLists.{GoesOn, goes_on, list_read, none_before}
+use Rattle.fb_json.proofs.ListTokens.{GoesOn, goes_on, list_read, none_before}
 use Rattle.fb_graph_in.proofs.tokens.next_edges.Goals as goal
 
 pub entries-init : goal.entries-init

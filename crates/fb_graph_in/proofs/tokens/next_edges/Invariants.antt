@@ -1,6 +1,6 @@
 use Rattle.std.proofs.Common.{ℕ, ◌<◌, ◌≤◌, length}
 use Rattle.fb_graph_in.specs.InternalTokens.{edge_data}
-use Rattle.fb_graph_in.proofs.TokenLists.{GoesOn}
+use Rattle.fb_json.proofs.ListTokens.{GoesOn}
 use Rattle.fb_graph_in.proofs.tokens.next_edges.Given as goal
 
 -- n bounds the number of turns that are left

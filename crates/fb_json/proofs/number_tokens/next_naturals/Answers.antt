@@ -1,10 +1,9 @@
 use Rattle.std.proofs.Common.{◌≡◌, ◌-◌, ◌<◌, ◌∷◌, length, Some, None, arith, sym, subst}
 use Rattle.json.specs.Token.{Token}
 use Rattle.json.specs.Json.{after_end_array}
-use Rattle.fb_json.specs.NumberTokens.{Begins}
-use Rattle.fb_graph_in.specs.InternalTokens.{natural_data}
-use Rattle.fb_graph_in.proofs.TokenLists.{GoesOn, goes_on, list_read, none_before}
-use Rattle.fb_graph_in.proofs.tokens.next_naturals.Goals as goal
+use Rattle.fb_json.specs.NumberTokens.{Begins, natural_data}
+use Rattle.fb_json.proofs.ListTokens.{GoesOn, goes_on, list_read, none_before}
+use Rattle.fb_json.proofs.number_tokens.next_naturals.Goals as goal
 
 pub entries-init : goal.entries-init
 entries-init c =

@@ -1,7 +1,7 @@
 use Rattle.std.proofs.Common.{ℕ, ◌≤◌, length}
-use Rattle.fb_graph_in.specs.InternalTokens.{natural_data}
-use Rattle.fb_graph_in.proofs.TokenLists.{GoesOn}
-use Rattle.fb_graph_in.proofs.tokens.next_naturals.Given as goal
+use Rattle.fb_json.specs.NumberTokens.{natural_data}
+use Rattle.fb_json.proofs.ListTokens.{GoesOn}
+use Rattle.fb_json.proofs.number_tokens.next_naturals.Given as goal
 
 -- n bounds the number of turns that are left
 abbrev pub invariant-entries : goal.invariant-entries
