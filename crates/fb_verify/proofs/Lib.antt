@@ -5,6 +5,7 @@ pub mod Gathers
 pub mod Goods
 pub mod KeptRows
 pub mod Leasts
+pub mod LoadTables
 pub mod LineAfterLine
 pub mod Marked
 pub mod Numerals

@@ -2,13 +2,17 @@
 
 ghost use Rattle.std.specs.Prelude.{◌≡◌, ◌<◌, ◌↔◌, All, IfOk, IfSome, length};
 ghost use Rattle.fb_graph.specs.Answers.{IsRight};
+ghost use Rattle.fb_graph.specs.Certificate.{AreDistinct};
 ghost use Rattle.fb_graph.specs.Components.{IsFirstOdd};
+ghost use Rattle.fb_graph.specs.Leasts.{least};
 ghost use Rattle.fb_graph.specs.Limits.{IsShot, problem_of};
-ghost use Rattle.fb_verify.specs.Verdicts.{HasPositiveValues, IsLeastWeight, IsOddVerdict, IsVerdict, certificate_fault, choice_fault, sums_fault};
+ghost use Rattle.fb_graph.specs.Signs.{solved_problem};
+ghost use Rattle.fb_verify.specs.Verdicts.{HasPositiveValues, IsLeastWeight, IsOddVerdict, IsVerdict, certificate_fault, choice_fault, is_overloaded, sums_fault};
 ghost use Rattle.fb_verify.specs.declared.verdicts.Verdict.TheVariants.{Good};
 
 use crate::cuts::first_cut_fault;
-use crate::loads::overloaded;
+use crate::load_table::LoadTable;
+use crate::loads::{overloaded, overloaded_by};
 use crate::numbers::{beyond, fall};
 use crate::parities::wrong_parity;
 use crate::sums::{sum_of_values, sum_of_weights};
@@ -37,17 +41,21 @@ pub fn check_row(alloc: Global, graph: &Graph, shot: &Shot, row: &Row) -> Result
 pub struct Judge<'a> {
     graph: &'a Graph,
     parts: Option<Components<Whole<'a>>>,
+    /// Whether a certificate's loads were added up before.
+    has_added: bool,
+    loads: Option<LoadTable>,
 }
 
 impl<'a> Model for Judge<'a> {
-    ghost use Rattle.std.specs.Prelude.{◌≡◌, IfSome};
+    ghost use Rattle.std.specs.Prelude.{◌≡◌, IfSome, length};
     ghost use Rattle.fb_graph.specs.Limits.{DecodingGraph};
 
     ghost Value = { DecodingGraph };
 
     ghost view = { λ j. j.graph.now };
 
-    ghost invariant = { λ j. IfSome j.parts (λ parts. parts.0.now ≡ j.graph.now) };
+    ghost invariant = { λ j. IfSome j.parts (λ parts. parts.0.now ≡ j.graph.now)
+        × IfSome j.loads (λ loads. loads ≡ length j.graph.now.edges) };
 }
 
 impl<'a> Judge<'a> {
@@ -55,7 +63,12 @@ impl<'a> Judge<'a> {
     pub fn new(graph: &'a Graph) -> Judge<'a>
         ensures { result ≡ graph.now }
     {
-        Judge { graph, parts: None }
+        Judge {
+            graph,
+            parts: None,
+            has_added: false,
+            loads: None,
+        }
     }
 
     /// As the function `check_row`, for the judge's graph.
@@ -91,13 +104,62 @@ impl<'a> Judge<'a> {
                 if let Some(fault) = sums_fault(self.graph, shot, edges, *base, *weight) {
                     return Ok(fault);
                 }
-                if let Some(fault) = certificate_fault(alloc, self.graph, shot, *weight, cuts)? {
+                if let Some(fault) = self.certificate_fault(alloc, shot, *weight, cuts)? {
                     return Ok(fault);
                 }
                 Ok(Verdict::Good)
             }
             Row::Odd(vertex) => self.check_odd(alloc, shot, *vertex),
         }
+    }
+
+    /// The first fault of the certificate of a correction.
+    fn certificate_fault(
+        &mut self,
+        alloc: Global,
+        shot: &Shot,
+        weight: i128,
+        cuts: &CutList,
+    ) -> Result<Option<Verdict>, NoMemory>
+        requires { IsShot self.old shot.now }
+        ensures fault { IfOk result (λ f. f ≡ certificate_fault self.old shot.now weight cuts.now) }
+        ensures same { self.new ≡ self.old }
+    {
+        if let Some(fault) = first_cut_fault(self.graph, shot, cuts) {
+            return Ok(Some(fault));
+        }
+        if let Some(edge) = self.overloaded(alloc, shot, cuts)? {
+            return Ok(Some(Verdict::Overloaded(edge)));
+        }
+        let total = i128::from(shot.base(self.graph)) + sum_of_values(cuts) as i128;
+        if weight != total {
+            return Ok(Some(Verdict::SumDiffers(weight, total)));
+        }
+        Ok(None)
+    }
+
+    /// The least edge that the cuts load above what it weighs for the shot, without its sign. A table over the graph is
+    /// made for the second correction, so that a check of one row takes no time by the size of the graph.
+    fn overloaded(
+        &mut self,
+        alloc: Global,
+        shot: &Shot,
+        cuts: &CutList,
+    ) -> Result<Option<u32>, NoMemory>
+        requires distinct { All (λ c. AreDistinct c.vertices) cuts.now }
+        requires below { All (λ c. All (λ v. v < self.old.vertices) c.vertices) cuts.now }
+        ensures least { IfOk result (λ e. e ≡ least (length self.old.edges)
+            (is_overloaded (solved_problem self.old shot.now) cuts.now)) }
+        ensures same { self.new ≡ self.old }
+    {
+        if !self.has_added {
+            self.has_added = true;
+            return overloaded(alloc, self.graph, shot, cuts);
+        }
+        let mut table = kept_or_new(alloc, self.graph, self.loads.take())?;
+        let first = overloaded_by(alloc, self.graph, shot, cuts, &mut table);
+        self.loads = Some(table);
+        first
     }
 
     /// What a check finds of an odd row.
@@ -125,6 +187,17 @@ fn kept_or_found<'a>(
     match kept {
         Some(parts) => Ok(parts),
         None => components(alloc, graph),
+    }
+}
+
+/// The table that was kept, else one of the graph.
+fn kept_or_new(alloc: Global, graph: &Graph, kept: Option<LoadTable>) -> Result<LoadTable, NoMemory>
+    requires { IfSome kept (λ loads. loads ≡ length graph.now.edges) }
+    ensures { IfOk result (λ loads. loads ≡ length graph.now.edges) }
+{
+    match kept {
+        Some(table) => Ok(table),
+        None => LoadTable::new(alloc, graph.edge_count()),
     }
 }
 
@@ -186,28 +259,4 @@ fn sums_fault(
         return Some(Verdict::BaseDiffers(base, negative));
     }
     None
-}
-
-/// The first fault of the certificate of a correction.
-fn certificate_fault(
-    alloc: Global,
-    graph: &Graph,
-    shot: &Shot,
-    weight: i128,
-    cuts: &CutList,
-) -> Result<Option<Verdict>, NoMemory>
-    requires { IsShot graph.now shot.now }
-    ensures { IfOk result (λ f. f ≡ certificate_fault graph.now shot.now weight cuts.now) }
-{
-    if let Some(fault) = first_cut_fault(graph, shot, cuts) {
-        return Ok(Some(fault));
-    }
-    if let Some(edge) = overloaded(alloc, graph, shot, cuts)? {
-        return Ok(Some(Verdict::Overloaded(edge)));
-    }
-    let total = i128::from(shot.base(graph)) + sum_of_values(cuts) as i128;
-    if weight != total {
-        return Ok(Some(Verdict::SumDiffers(weight, total)));
-    }
-    Ok(None)
 }

@@ -8,6 +8,7 @@ mod gathering;
 mod laws;
 mod line_words;
 pub mod lines;
+mod load_table;
 mod loads;
 mod numbers;
 mod parities;

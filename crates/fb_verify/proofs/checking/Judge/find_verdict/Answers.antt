@@ -24,7 +24,7 @@ returns-in-Some-2-clause-verdict c =
     let weight : SFits w128 c.in-Best.weight = search rules in
     let choice = rw c.as_slice-edges.ensures at (sym c.in_ok-fault-in-Best.ensures ∙ c.in_default.is) in
     let sums = rw (to_z-of_z _ _ base, to_z-of_z _ _ weight, c.as_slice-edges.ensures) at (sym c.sums_fault.ensures ∙ c.in_default-sums_fault.is) in
-    let certificate = rw (to_z-of_z _ _ weight) at (sym c.in_ok-fault-in-Best-2.ensures ∙ c.in-Some-2.is) in
+    let certificate = rw (to_z-of_z _ _ weight, ← c.self.view_is) at (sym c.in_ok-fault-in-Best-2.ensures.fault ∙ c.in-Some-2.is) in
     rw (c.in-Best.is, ← c.self.view_is) (third_fault _ _ _ c.in-Some-2.fault choice sums certificate)
 
 pub returns-in_default-2-clause-verdict : goal.returns-in_default-2-clause-verdict
@@ -33,5 +33,5 @@ returns-in_default-2-clause-verdict c =
     let weight : SFits w128 c.in-Best.weight = search rules in
     let choice = rw c.as_slice-edges.ensures at (sym c.in_ok-fault-in-Best.ensures ∙ c.in_default.is) in
     let sums = rw (to_z-of_z _ _ base, to_z-of_z _ _ weight, c.as_slice-edges.ensures) at (sym c.sums_fault.ensures ∙ c.in_default-sums_fault.is) in
-    let certificate = rw (to_z-of_z _ _ weight) at (sym c.in_ok-fault-in-Best-2.ensures ∙ c.in_default-2.is) in
+    let certificate = rw (to_z-of_z _ _ weight, ← c.self.view_is) at (sym c.in_ok-fault-in-Best-2.ensures.fault ∙ c.in_default-2.is) in
     rw (c.in-Best.is, ← c.self.view_is) (no_fault _ _ _ choice sums certificate)
