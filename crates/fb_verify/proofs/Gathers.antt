@@ -13,7 +13,7 @@ use Rattle.fb_verify.specs.declared.report_faults.ReportFault.TheVariants.{BadLi
 use Rattle.fb_verify.specs.InternalGathers.{gathered, gather, last_at}
 use Rattle.fb_verify.specs.Places.{Place, Reading}
 use Rattle.fb_verify.specs.Places as place
-use Rattle.fb_verify.specs.Reports.{is_odd, has_none, may_weigh, reading, at_row_end, after_edges, step}
+use Rattle.fb_verify.specs.Reports.{is_odd, has_none, may_weigh, reading, at_row_end, step}
 
 -- these are the rows of a reading
 abbrev pub Holds : Gathered → Reading → Type 0

@@ -21,7 +21,7 @@ use Rattle.fb_verify.specs.Places as place
 use Rattle.fb_verify.specs.Places.{Reading}
 use Rattle.fb_verify.specs.declared.report_faults.ReportFault.TheVariants.{BadLine, WrongShot}
 use Rattle.fb_graph.specs.declared.parts.Cut.{Cut}
-use Rattle.fb_verify.specs.Reports.{words_of, is_odd, has_none, first_number, first_signed, after_word, all_numbers, with_number, with_signed, with_word, at_end, row_kind, cut_of, head_line, shot_line, edges_line, base_line, weight_line, cut_line, trace_line, done_line, line_of, reading, as_next, at_row_end, after_edges, may_weigh, step, with_line, ending, go_on, read_from, most_bytes, report_of_text}
+use Rattle.fb_verify.specs.Reports.{words_of, is_odd, has_none, first_number, first_signed, after_word, all_numbers, with_number, with_signed, with_word, at_end, row_kind, cut_of, head_line, shot_line, edges_line, base_line, weight_line, cut_line, trace_line, done_line, line_of, reading, as_next, at_row_end, may_weigh, step, with_line, ending, go_on, read_from, most_bytes, report_of_text}
 use Rattle.fb_verify.specs.Verdicts.{HasPositiveValues}
 
 -- ---- lines

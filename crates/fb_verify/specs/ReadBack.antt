@@ -4,7 +4,7 @@ use Rattle.std.specs.List.{concat}
 use Rattle.fb_graph.specs.declared.parts.Cut.{Cut}
 use Rattle.fb_graph.specs.declared.parts.Row.{Row}
 use Rattle.fb_graph.specs.declared.parts.Row.TheVariants.{Best, Odd}
-use Rattle.fb_report.specs.Texts.{line, head_text, base_line, weight_line, cut_line, row_text, rows_text, trace_line, done_text}
+use Rattle.fb_report.specs.Texts.{line, head_text, base_line, weight_line, cut_line, rows_text, trace_line, done_text}
 use Rattle.fb_verify.specs.declared.reports.Report.{Report}
 use Rattle.fb_verify.specs.declared.reports.Version.{Version}
 use Rattle.fb_verify.specs.declared.reports.Version.TheVariants.{One, Two}

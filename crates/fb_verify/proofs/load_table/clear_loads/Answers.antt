@@ -1,4 +1,4 @@
-use Rattle.std.proofs.Common.{◌≡◌, ◌<◌, ◌≤◌, ◌∙◌, length, ap, sym, arith}
+use Rattle.std.proofs.Common.{◌≡◌, ◌≤◌, ◌∙◌, length, ap, sym, arith}
 use Rattle.std.proofs.lemmas.List.{drop_all, ext_get_or, get_or-replicate}
 use Rattle.std.proofs.Math.ListN.{length-replicate}
 use Rattle.fb_verify.specs.InternalLoads.{load_in}

@@ -1,8 +1,8 @@
-use Rattle.std.proofs.Common.{◌≡◌, ℕ, ◌<◌, ◌∙◌, [], ◌∷◌, ◌++◌, Some, get_or, take, sym, ap, subst, take_all, arith}
+use Rattle.std.proofs.Common.{ℕ, ◌<◌, ◌∙◌, [], ◌∷◌, ◌++◌, Some, get_or, take, sym, ap, subst, take_all, arith}
 use Rattle.std.proofs.lemmas.List.{take_more}
 use Rattle.fb_graph.specs.Problem.{edge_at}
 use Rattle.fb_graph.specs.ShotGraphs.{shot_graph}
-use Rattle.fb_verify.specs.InternalLoads.{IsLeastOver, lesser_edge}
+use Rattle.fb_verify.specs.InternalLoads.{IsLeastOver}
 use Rattle.fb_verify.specs.declared.shares.Share.{Share}
 use Rattle.fb_verify.proofs.LoadTables.{least_over_kept, least_over_more}
 use Rattle.fb_verify.proofs.load_table.least_above.Goals as goal

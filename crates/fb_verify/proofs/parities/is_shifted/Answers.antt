@@ -1,5 +1,4 @@
-use Rattle.std.proofs.Common.{◌≡◌, Bool, refl, sym, ap, subst, ◌∙◌}
-use Rattle.std.specs.List.Sorted.{IsStrictlyIncreasing}
+use Rattle.std.proofs.Common.{◌≡◌, Bool, refl, sym, ap, ◌∙◌}
 use Rattle.fb_graph.specs.Parity.{differ, is_in}
 use Rattle.fb_graph.proofs.SignTurns.{shifted_by_turns}
 use Rattle.fb_verify.proofs.parities.is_shifted.Goals as goal
