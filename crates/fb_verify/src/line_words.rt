@@ -12,6 +12,9 @@ use std::marker::Model;
 /// The greatest number of 32 bits.
 const MOST_SMALL: u64 = u32::MAX as u64;
 
+/// How many bytes a number of a line takes with its space, more or less.
+const LIKELY_BYTES: usize = 4;
+
 /// Words of a line that are left to read. Contracts see their list.
 #[derive(Drop)]
 pub struct Words<'a> {
@@ -89,11 +92,20 @@ impl<'a> Words<'a> {
         self.rest.is_none()
     }
 
+    /// How many words there may be, if each takes four bytes with its space.
+    fn likely_count(&self) -> usize {
+        match self.rest {
+            Some(text) => (text.len() / LIKELY_BYTES).saturating_add(1),
+            None => 0,
+        }
+    }
+
     /// The numbers below 2^32 that all the words write.
     pub fn numbers(self, alloc: Global) -> Result<Option<NumberList>, NoMemory>
         ensures { IfOk result (λ found. found ≡ all_numbers self.entry) }
     {
-        let mut found = NumberList::from_vec(Vec::new(alloc));
+        let room = Vec::with_capacity(alloc, self.likely_count())?;
+        let mut found = NumberList::from_vec(room);
         let mut words = self;
         while let Some((word, more)) = words.split_first() {
             let Some(number) = number(word, MOST_SMALL) else {

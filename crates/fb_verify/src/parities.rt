@@ -35,9 +35,11 @@ fn marks(alloc: Global, graph: &Graph, shot: &Shot, edges: &[u32]) -> Result<Vec
     requires { All (λ k. k < length graph.now.edges) edges.now }
     ensures { IfOk result (λ v. v.items ≡ ends_of graph.now.edges edges.now ++ shot.now.defects) }
 {
-    let mut marks = Vec::new(alloc);
+    let defects = shot.as_slice();
+    let count = edges.len().saturating_mul(2).saturating_add(defects.len());
+    let mut marks = Vec::with_capacity(alloc, count)?;
     add_ends(&mut marks, graph, edges)?;
-    marks.extend_from_slice(shot.as_slice())?;
+    marks.extend_from_slice(defects)?;
     Ok(marks)
 }
 
