@@ -63,3 +63,4 @@ pub mod Stored
 pub mod Together
 pub mod Turned
 pub mod Unmarked
+pub mod Widened

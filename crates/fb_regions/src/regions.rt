@@ -4,6 +4,7 @@ ghost use Rattle.fb_graph.specs.Parity.{is_in};
 ghost use Rattle.fb_graph.specs.Problem.{edge_at};
 ghost use Rattle.fb_graph.specs.Certificate.{load_of};
 ghost use Rattle.fb_graph.specs.Covers.{AreRoles};
+ghost use Rattle.fb_graph.specs.Laws.{IsPart};
 ghost use Rattle.fb_graph.specs.Dual.{AreUnderOne, all_cuts, change_at, cover_of, height_of, is_empty, is_live, is_outer, leaf, leaves, node_at, thicker_node, AllowsGrowth, IsCrossed, layers_at, top_at};
 ghost use Rattle.fb_graph.specs.NestUnions.{AreParts};
 ghost use Rattle.fb_graph.specs.Printed.{is_positive};
@@ -242,6 +243,16 @@ impl<S: Scope> Regions<S> {
             clock,
         };
         Ok((merged, spare))
+    }
+
+    /// The same state over a larger part of the graph. Takes constant time.
+    pub fn widen(&mut self, scope: &S)
+        requires part { IsPart (S.problem self.old.scope) (S.problem scope.now) }
+        requires vertices { (S.problem self.old.scope).vertices ≡ (S.problem scope.now).vertices }
+        ensures { self.new ≡ record self.old { scope = scope.now } }
+    {
+        scope.limits();
+        self.scope = *scope;
     }
 
     /// Does nothing. Its clauses say what every dual state keeps.
