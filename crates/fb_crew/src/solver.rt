@@ -358,18 +358,22 @@ fn fusion_by<'a, L: Ledger>(
     requires children { children_of job.now.plan node ≡ Some (left.node, right.node) }
     ensures { IfOk result (IsPartOf job.now left.entry.slot node) }
 {
-    let has_room = has_nodes(&right);
     let scratch = tools.lend(alloc, job.graph())?;
     let mut steps = Steps::<L>::new(blank);
     let before = scratch.matched();
-    let (half, spare, scratch) = fuse_from(alloc, job, node, left, right, scratch, &mut steps)?;
+    let (half, scratch) = fuse_from(
+        alloc,
+        job,
+        node,
+        left,
+        right,
+        &mut tools.spares,
+        scratch,
+        &mut steps,
+    )?;
     tools.count_fusion(scratch.matched().saturating_sub(before));
     tools.put_back(scratch, job.graph());
-    if has_room {
-        tools.keep(spare);
-    } else {
-        drop(spare);
-    }
+    tools.spares.truncate(MOST_SPARES);
     Ok(half)
 }
 

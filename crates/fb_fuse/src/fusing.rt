@@ -37,37 +37,47 @@ pub fn fuse<'a, L: Ledger>(
         + length (seam_defects job.now left.entry.slot node)) + 2 * steps.old ≤ 2 * steps.new) }
 {
     let scratch = Scratch::new(alloc, &Whole(job.graph()))?;
-    let (half, _spare, _scratch) = fuse_from(alloc, job, node, left, right, scratch, steps)?;
+    let (half, _scratch) = fuse_from(
+        alloc,
+        job,
+        node,
+        left,
+        right,
+        &mut Vec::new(alloc),
+        scratch,
+        steps,
+    )?;
     Ok(half)
 }
 
-/// The same as `fuse`, with scratch space that is lent and returned, so that one serves many parts of a graph. The room that
-/// is left of the right part is returned too, for another part.
+/// The same as `fuse`, with scratch space that is lent and returned, so that one serves many parts of a graph. If both parts
+/// have nodes, the room that is left of the right one is added to the spares, for another part.
 pub fn fuse_from<'a, L: Ledger>(
     alloc: Global,
     job: &'a Job<'a>,
     node: u32,
     left: Half<'a>,
     right: Half<'a>,
+    spares: &mut Vec<Spare>,
     scratch: Scratch,
     steps: &mut Steps<L>,
-) -> Result<(Half<'a>, Spare, Scratch), NoMemory>
+) -> Result<(Half<'a>, Scratch), NoMemory>
     requires left { left.job ≡ job.now }
     requires right { right.job ≡ job.now }
     requires slot { left.slot ≡ right.slot }
     requires children { children_of job.now.plan node ≡ Some (left.node, right.node) }
     requires room { scratch.edge_count ≡ length job.now.graph.edges }
     ensures half { IfOk result (λ r. IsPartOf job.now left.entry.slot node r.0) }
-    ensures room { IfOk result (λ r. r.2.edge_count ≡ scratch.edge_count) }
+    ensures room { IfOk result (λ r. r.1.edge_count ≡ scratch.edge_count) }
     ensures never_falls { steps.old ≤ steps.new }
     ensures most { IfOk result (λ r. steps.new ≤ steps.old
         + (length (freed_in left.entry node) + length (freed_in right.entry node) + length (seam_defects job.now left.entry.slot node))) }
     ensures least { IfOk result (λ r. (length (freed_in left.entry node) + length (freed_in right.entry node)
         + length (seam_defects job.now left.entry.slot node)) + 2 * steps.old ≤ 2 * steps.new) }
 {
-    let (work, spare) = Work::merge_with_spare(alloc, job, node, left, right)?;
+    let work = Work::merge_with_spares(alloc, job, node, left, right, spares)?;
     let (work, scratch) = match_all(alloc, work, scratch, steps)?;
-    Ok((work.close(), spare, scratch))
+    Ok((work.close(), scratch))
 }
 
 /// Matches each unmatched node: those that can be at once in rising order of their first vertices, then all others.

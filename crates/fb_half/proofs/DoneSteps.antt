@@ -23,3 +23,8 @@ on_ok (Err e) follows a = tt
 pub always_ok : {T E A : Type 0} (r : Result T E) → A → OnOk r A
 always_ok (Ok x) a = a
 always_ok (Err e) a = tt
+
+-- so does one of its value
+pub each_ok : {T E : Type 0} {P Q : T → Type 0} (r : Result T E) → ((x : T) → P x → Q x) → IfOk r P → IfOk r Q
+each_ok (Ok x) follows a = follows x a
+each_ok (Err e) follows a = tt

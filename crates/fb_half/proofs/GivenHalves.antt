@@ -1,24 +1,14 @@
 -- The two halves that a fusion is given: what they keep, read over the job and the slot of the left one.
-use Rattle.std.proofs.Common.{ℕ, ◌≡◌, List, [], ◌++◌, map, Some, refl, sym, ap, ◌∙◌, subst}
+use Rattle.std.proofs.Common.{ℕ, ◌≡◌, [], Some, refl, sym, ap, ◌∙◌, subst}
 use Rattle.fb_graph.specs.Limits.{DecodingGraph, IsWithinLimits, no_shot}
-use Rattle.fb_graph.specs.RenamedNodes.{renamed_nodes}
 use Rattle.fb_plan.specs.Plans.{JobValue, PlanTree, children_of, problem_at}
-use Rattle.fb_links.specs.Names.{name_by}
-use Rattle.fb_half.specs.declared.matches.Match.{Match}
-use Rattle.fb_half.specs.Merged.{renamed_match}
+use Rattle.fb_plan.specs.Scopes.{scope_graph, scope_problem}
+use Rattle.fb_plan.specs.declared.scope.NodeScope.{NodeScope}
+use Rattle.fb_half.specs.declared.parts.Parts.{Parts}
+use Rattle.fb_half.specs.Values.{HasScope, part_of}
+use Rattle.fb_half.specs.InternalMerging.{AreHalves, AreSiblings}
 use Rattle.fb_half.specs.Parts.{IsPart, PartValue, graph_in}
 use Rattle.fb_half.proofs.MergedHalves.{same_part}
-
-pub record AreHalves (j : JobValue) (left right : PartValue) (n : ℕ) : Type 0 where
-  pub job : left.job ≡ j
-  pub same_job : right.job ≡ left.job
-  pub same_slot : right.slot ≡ left.slot
-  pub limits : IsWithinLimits (problem_at (graph_in left) left.job.plan n no_shot)
-  pub children : children_of left.job.plan n ≡ Some (left.node, right.node)
-  pub one : IsPart left
-  pub two : IsPart (record right { job = left.job; slot = left.slot })
-  pub matched : left.matching.unmatched ≡ []
-  pub also : right.matching.unmatched ≡ []
 
 -- two halves as they are taken apart
 pub halves_of : (j : JobValue) (n : ℕ) (g : DecodingGraph) (t : PlanTree) (left right first second : PartValue) → left ≡ first → right ≡ second
@@ -43,35 +33,29 @@ halves_of j n g t left right first second left_is right_is first_job second_job 
       also = also;
     }))
 
--- the pieces put together are the part of both beside one another
-pub pieces_are : (j : JobValue) (left right made : PartValue) (n : ℕ) (links names links_read names_read : List (ℕ × ℕ)) (matches : List Match)
-    → AreHalves j left right n → made.job ≡ j → made.slot ≡ left.slot → made.node ≡ n → links_read ≡ links → names_read ≡ names
-    → made.nodes ≡ left.nodes ++ renamed_nodes (name_by names) right.nodes → matches ≡ right.matching.matches
-    → made.matching ≡ record { matches = left.matching.matches ++ map (renamed_match (name_by links_read) (name_by names_read)) matches; unmatched = left.matching.unmatched }
-    → made
-    ≡ record {
-      job = left.job;
-      slot = left.slot;
-      node = n;
-      nodes = left.nodes ++ renamed_nodes (name_by names) right.nodes;
-      links = made.links;
-      store = made.store;
-      matching = record { matches = left.matching.matches ++ map (renamed_match (name_by links) (name_by names)) right.matching.matches; unmatched = [] };
+-- the pieces of two halves, and the scope of the node above them
+pub siblings_of : (j : JobValue) (n : ℕ) (scope : NodeScope) (left right : Parts) (first second : PartValue) → part_of left ≡ first → part_of right ≡ second
+    → HasScope left → HasScope right → first.job ≡ j → second.job ≡ j → first.slot ≡ second.slot → children_of j.plan n ≡ Some (first.node, second.node)
+    → scope_graph scope ≡ graph_in first → scope.plan.now ≡ j.plan → scope.node ≡ n → IsWithinLimits (scope_problem scope)
+    → IsPart first → IsPart second → first.matching.unmatched ≡ [] → second.matching.unmatched ≡ [] → AreSiblings scope left right
+siblings_of j n scope left right first second left_is right_is mine theirs first_job second_job slot children graph plan node limits one two matched also =
+    let h =
+    halves_of j scope.node (scope_graph scope) scope.plan.now (part_of left) (part_of right) first second left_is right_is first_job second_job slot
+    (ap (children_of j.plan) node ∙ children) graph plan limits one two matched also in
+    record {
+      halves = record {
+        job = refl;
+        same_job = h.same_job;
+        same_slot = h.same_slot;
+        limits = h.limits;
+        children = h.children;
+        one = h.one;
+        two = h.two;
+        matched = h.matched;
+        also = h.also;
+      };
+      left_scope = mine;
+      right_scope = theirs;
+      graph = graph ∙ ap graph_in (sym left_is);
+      plan = plan ∙ ap (λ x. x.plan) (sym h.job);
     }
-pieces_are j left right made n links names links_read names_read matches h job slot node links_are names_are nodes matches_are matching =
-    same_part made
-    (record {
-      job = left.job;
-      slot = left.slot;
-      node = n;
-      nodes = left.nodes ++ renamed_nodes (name_by names) right.nodes;
-      links = made.links;
-      store = made.store;
-      matching = record { matches = left.matching.matches ++ map (renamed_match (name_by links) (name_by names)) right.matching.matches; unmatched = [] };
-    })
-    (job ∙ sym h.job) slot node nodes refl refl
-    (matching
-    ∙ (ap (λ l. record { matches = left.matching.matches ++ map (renamed_match (name_by links_read) (name_by names_read)) matches; unmatched = l }) h.matched
-    ∙ (ap (λ l. record { matches = left.matching.matches ++ map (renamed_match (name_by l) (name_by names_read)) matches; unmatched = [] }) links_are
-    ∙ (ap (λ l. record { matches = left.matching.matches ++ map (renamed_match (name_by links) (name_by l)) matches; unmatched = [] }) names_are
-    ∙ ap (λ l. record { matches = left.matching.matches ++ map (renamed_match (name_by links) (name_by names)) l; unmatched = [] }) matches_are))))

@@ -31,3 +31,5 @@ pub mod ShiftedLists
 pub mod SlotScopes
 pub mod Tables
 pub mod Taken
+pub mod JoinedParts
+pub mod ExtendedParts

@@ -66,9 +66,9 @@ module _ (left right : PartValue) (n : ℕ) (limits : IsWithinLimits (problem_at
     (links names : List (ℕ × ℕ)) (table : Table) (store : Store) (tables : AreMerged left.links right.links links table)
     (stores : merged.IsMerged left.store right.store store links names) (same_job : right.job ≡ left.job)
     (mine theirs seams : Seams)
-    (own : (o x : ℕ) → is_in (names_under mine o) x ≡ true → is_in (names_under seams o) x ≡ true)
-    (others : (o x : ℕ) → is_in (names_under theirs o) x ≡ true
-    → is_in (names_under seams o) (name left right n limits children one two matched also links names table store tables stores x) ≡ true)
+    (own : All (λ m. (o : ℕ) → is_in (names_under mine o) m.first ≡ true → is_in (names_under seams o) m.first ≡ true) left.matching.matches)
+    (others : All (λ m. (o : ℕ) → is_in (names_under theirs o) m.first ≡ true
+    → is_in (names_under seams o) (name left right n limits children one two matched also links names table store tables stores m.first) ≡ true) right.matching.matches)
     (listed : AreListed (problem_in left).is_real left.job.plan mine left.links left.matching.matches)
     (listed_too : AreListed (problem_in right).is_real right.job.plan theirs right.links right.matching.matches) where
   abbrev pub w : PartValue
@@ -94,7 +94,7 @@ module _ (left right : PartValue) (n : ℕ) (limits : IsWithinLimits (problem_at
 
   left_listed : (e : Match) → IsAmong e left.matching.matches → IsIn e
   left_listed e a owner none at =
-      own owner e.first
+      All_among (λ m. (o : ℕ) → is_in (names_under mine o) m.first ≡ true → is_in (names_under seams o) m.first ≡ true) left.matching.matches own e a owner
       (All_among (IsListed (problem_in left).is_real left.job.plan mine left.links) left.matching.matches listed e a owner none
       (sym (ap (owner_of left.job.plan) far) ∙ at))
     where
@@ -116,7 +116,7 @@ module _ (left right : PartValue) (n : ℕ) (limits : IsWithinLimits (problem_at
 
   right_listed : (e : Match) → IsAmong e right.matching.matches → IsIn (renamed_match new_link new_name e)
   right_listed e a owner none at =
-      others owner e.first
+      All_among (λ m. (o : ℕ) → is_in (names_under theirs o) m.first ≡ true → is_in (names_under seams o) (new_name m.first) ≡ true) right.matching.matches others e a owner
       (All_among (IsListed (problem_in right).is_real right.job.plan theirs right.links) right.matching.matches listed_too e a owner
       (second_back new_name e.second none)
       (ap (λ j. owner_of j.plan (far_end (problem_at j.graph j.plan right.node no_shot).is_real (link_by right.links e.link))) same_job

@@ -4,7 +4,7 @@ ghost use Rattle.std.specs.Prelude.{◌≡◌, ◌≢◌, ◌<◌, ◌++◌, ℕ
 ghost use Rattle.std.specs.List.Sorted.{IsStrictlyIncreasing};
 ghost use Rattle.fb_graph.specs.Certificate.{AreDistinct};
 ghost use Rattle.fb_graph.specs.Dual.{cover_of, is_live as is_node};
-ghost use Rattle.fb_graph.specs.NestUnions.{AreParts};
+ghost use Rattle.fb_graph.specs.Laws.{IsPart};
 ghost use Rattle.fb_graph.specs.Parity.{is_in};
 ghost use Rattle.fb_graph.specs.RenamedNodes.{renamed_nodes};
 ghost use Rattle.fb_regions.specs.Merged.{AreNewNames};
@@ -17,7 +17,7 @@ ghost use Rattle.fb_links.specs.Table.{is_live};
 ghost use Rattle.fb_blossoms.specs.Merged.{AreLeavesApart};
 ghost use Rattle.fb_blossoms.specs.Merged as merged;
 ghost use Rattle.fb_blossoms.specs.Nodes as blossoms;
-ghost use Rattle.fb_half.specs.InternalMerging.{joined_part};
+ghost use Rattle.fb_half.specs.InternalMerging.{AreSiblings, IsExtended, IsJoined};
 ghost use Rattle.fb_half.specs.InternalSeams.{AddsSingles, AreBesideListed, IsFreed, IsOpened, meets_seam, met_nodes};
 ghost use Rattle.fb_half.specs.InternalStandings.{has_name, no_match};
 ghost use Rattle.fb_half.specs.Matchings.{listed_names, match_links, matched_names};
@@ -34,7 +34,7 @@ use crate::parts::Parts;
 use crate::reach::within;
 use crate::seams::{Seams, far_owner};
 use crate::shifting::{NodeDefects, odd_among};
-use crate::spare::EmptyTables;
+use crate::spare::{EmptyTables, Spare};
 use crate::start::add_leaf;
 use crate::unions::add_rising;
 use fb_blossoms::Blossoms;
@@ -42,21 +42,8 @@ use fb_graph::{NoMemory, NumberList};
 use fb_links::names::{Names, names_of};
 use fb_links::{LinkId, Links, NodeId};
 use fb_plan::{Job, NodeScope, Plan};
-use fb_regions::{Regions, SpareRegions};
+use fb_regions::Regions;
 use std::alloc::Global;
-
-/// The parts of two children as one, whose matching and defects are still the left part's alone; with the old and new numbers
-/// of what was the right part's, that part's matching and defects, and the room that is left of its dual state and its tables.
-#[derive(Drop)]
-pub(crate) struct MergedParts<'a> {
-    pub(crate) parts: Box<Parts<'a>, Global>,
-    link_names: Vec<(LinkId, LinkId)>,
-    names: Vec<(NodeId, NodeId)>,
-    pub(crate) others: Matching,
-    other_defects: Vec<u32>,
-    pub(crate) room: SpareRegions,
-    pub(crate) emptied: EmptyTables,
-}
 
 /// The links and the blossoms of two parts as those of one, the old and new numbers of what was the right part's, and the
 /// right part's tables, emptied.
@@ -97,32 +84,71 @@ fn merged_tables(
     })
 }
 
-/// The right part's dual state, links and blossoms beside the left one's, for a scope that has the real vertices of both.
-pub(crate) fn merged_parts<'a>(
+/// The parts of two children as one, for a scope that has the real vertices of both: all nodes, links and matches of both. If
+/// one of them has no node, the other one stays in its box as it is. Else the left part's numbers stay, and the emptied room
+/// of the right part is added to the spares, if there is memory to list it.
+pub(crate) fn joined<'a>(
     alloc: Global,
     scope: &NodeScope<'a>,
     left: Box<Parts<'a>, Global>,
     right: Box<Parts<'a>, Global>,
-) -> Result<MergedParts<'a>, NoMemory>
-    requires left_rest { IsAtRest left.value.regions }
-    requires right_rest { IsAtRest right.value.regions }
-    requires leaves { AreLeavesApart left.value.blossoms right.value.blossoms }
-    requires names { (store : List (Option blossoms.Node)) (links names : List (ℕ × ℕ)) → merged.IsMerged left.value.blossoms right.value.blossoms store links names → AreNewNames left.value.regions.nodes right.value.regions.nodes (name_by names) }
-    requires parts { AreParts (scope_problem left.value.regions.scope) (scope_problem right.value.regions.scope) (scope_problem scope.now) }
-    requires left_vertices { left.value.regions.scope.graph.now.vertices ≡ scope.now.graph.now.vertices }
-    requires right_vertices { right.value.regions.scope.graph.now.vertices ≡ scope.now.graph.now.vertices }
-    ensures links { IfOk result (λ m. AreMerged left.entry.value.links right.entry.value.links m.link_names.items m.parts.value.links) }
-    ensures blossoms { IfOk result (λ m. merged.IsMerged left.entry.value.blossoms right.entry.value.blossoms m.parts.value.blossoms m.link_names.items m.names.items) }
-    ensures regions { IfOk result (λ m. m.parts.value.regions ≡ record left.entry.value.regions { scope = scope.now; nodes = left.entry.value.regions.nodes ++ renamed_nodes (name_by m.names.items) right.entry.value.regions.nodes }) }
-    ensures matching { IfOk result (λ m. m.parts.value.matching ≡ left.entry.value.matching) }
-    ensures others { IfOk result (λ m. m.others ≡ right.entry.value.matching) }
-    ensures defects { IfOk result (λ m. m.parts.value.defects.items ≡ left.entry.value.defects.items) }
-    ensures other_defects { IfOk result (λ m. m.other_defects.items ≡ right.entry.value.defects.items) }
-    ensures left_seams { IfOk result (λ m. (o x : ℕ) → is_in (names_under left.entry.value.seams o) x ≡ true → is_in (names_under m.parts.value.seams o) x ≡ true) }
-    ensures right_seams { IfOk result (λ m. (o x : ℕ) → is_in (names_under right.entry.value.seams o) x ≡ true → is_in (names_under m.parts.value.seams o) (name_by m.names.items x) ≡ true) }
-    ensures job { IfOk result (λ m. m.parts.value.job.0.now ≡ left.entry.value.job.0.now) }
-    ensures slot { IfOk result (λ m. m.parts.value.slot ≡ left.entry.value.slot) }
-    ensures node { IfOk result (λ m. m.parts.value.node ≡ scope.now.node) }
+    spares: &mut Vec<Spare>,
+) -> Result<Box<Parts<'a>, Global>, NoMemory>
+    requires { AreSiblings scope.now left.value right.value }
+    ensures { IfOk result (λ p. IsJoined scope.now left.entry.value right.entry.value p.value) }
+{
+    if right.regions.len() == 0 {
+        return extended(alloc, scope, left, &right);
+    }
+    joined_beside(alloc, scope, left, right, spares)
+}
+
+/// The part in a larger scope, with the defects of a part without nodes.
+fn extended<'a>(
+    alloc: Global,
+    scope: &NodeScope<'a>,
+    parts: Box<Parts<'a>, Global>,
+    empty: &Parts<'_>,
+) -> Result<Box<Parts<'a>, Global>, NoMemory>
+    requires part { IsPart (scope_problem parts.value.regions.scope) (scope_problem scope.now) }
+    requires vertices { parts.value.regions.scope.graph.now.vertices ≡ scope.now.graph.now.vertices }
+    requires defects { IsStrictlyIncreasing parts.value.defects.items }
+    requires other_defects { IsStrictlyIncreasing empty.now.defects.items }
+    ensures { IfOk result (λ p. IsExtended scope.now parts.entry.value empty.now p.value) }
+{
+    let mut parts = parts;
+    extend(alloc, scope, &mut *parts, empty)?;
+    Ok(parts)
+}
+
+/// The same in place.
+fn extend<'a>(
+    alloc: Global,
+    scope: &NodeScope<'a>,
+    parts: &mut Parts<'a>,
+    empty: &Parts<'_>,
+) -> Result<(), NoMemory>
+    requires part { IsPart (scope_problem parts.old.regions.scope) (scope_problem scope.now) }
+    requires vertices { parts.old.regions.scope.graph.now.vertices ≡ scope.now.graph.now.vertices }
+    requires defects { IsStrictlyIncreasing parts.old.defects.items }
+    requires other_defects { IsStrictlyIncreasing empty.now.defects.items }
+    ensures { OnOk result (IsExtended scope.now parts.old empty.now parts.new) }
+{
+    parts.regions.widen(scope);
+    parts.node = scope.node;
+    add_rising(alloc, &mut parts.defects, &empty.defects)
+}
+
+/// The right part's nodes, links and matches beside the left one's, under new numbers.
+fn joined_beside<'a>(
+    alloc: Global,
+    scope: &NodeScope<'a>,
+    left: Box<Parts<'a>, Global>,
+    right: Box<Parts<'a>, Global>,
+    spares: &mut Vec<Spare>,
+) -> Result<Box<Parts<'a>, Global>, NoMemory>
+    requires { AreSiblings scope.now left.value right.value }
+    ensures { IfOk result (λ p. IsJoined scope.now left.entry.value right.entry.value p.value) }
 {
     let left = Box::into_inner(left);
     let right = Box::into_inner(right);
@@ -141,29 +167,32 @@ pub(crate) fn merged_parts<'a>(
         scope,
     )?;
     let seams = Seams::merged(alloc, left.seams, right.seams, &tables.names)?;
+    let mut defects = left.defects;
+    add_rising(alloc, &mut defects, &right.defects)?;
+    let mut matching = left.matching;
+    take_matches(
+        alloc,
+        &mut matching,
+        right.matching.matches(),
+        &tables.link_names,
+        &tables.names,
+    )?;
     let parts = Box::new(
         alloc,
         Parts {
             regions,
             links: tables.links,
             blossoms: tables.blossoms,
-            matching: left.matching,
+            matching,
             seams,
-            defects: left.defects,
+            defects,
             job: left.job,
             slot: left.slot,
             node: scope.node,
         },
     )?;
-    Ok(MergedParts {
-        parts,
-        link_names: tables.link_names,
-        names: tables.names,
-        others: right.matching,
-        other_defects: right.defects,
-        room,
-        emptied: tables.emptied,
-    })
+    let _kept = spares.push(Spare::beside(room, tables.emptied, right.matching));
+    Ok(parts)
 }
 
 /// The match with new numbers of its link and of its nodes.
@@ -394,7 +423,7 @@ fn add_leaves(
 
 /// Makes the vertices that the part's node owns real: removes the matches to them, and makes the shifted defects there
 /// further nodes.
-fn open_seam(alloc: Global, parts: &mut Parts<'_>) -> Result<(), NoMemory>
+pub(crate) fn open_seam(alloc: Global, parts: &mut Parts<'_>) -> Result<(), NoMemory>
     requires scope { IsScopeOf parts.old.regions.scope (part_of parts.old) }
     requires beside { AreBesideListed parts.old.seams (part_of parts.old) }
     requires defects { IsStrictlyIncreasing parts.old.defects.items }
@@ -426,37 +455,4 @@ fn open_seam(alloc: Global, parts: &mut Parts<'_>) -> Result<(), NoMemory>
     let own = seam_defects(alloc, job, *slot, *node)?;
     add_rising(alloc, defects, &own.given)?;
     add_leaves(alloc, regions, blossoms, matching, &own.shifted)
-}
-
-/// Takes over the right part's matches, and opens the seam.
-pub(crate) fn complete(alloc: Global, merged: &mut MergedParts<'_>) -> Result<(), NoMemory>
-    requires scope { IsScopeOf merged.old.parts.value.regions.scope (part_of merged.old.parts.value) }
-    requires distinct { AreDistinct (listed_names merged.old.parts.value.matching ++ matched_names (map (renamed_match (name_by merged.old.link_names.items) (name_by merged.old.names.items)) merged.old.others.matches)) }
-    requires beside { AreBesideListed merged.old.parts.value.seams (joined_part merged.old) }
-    requires defects { IsStrictlyIncreasing merged.old.parts.value.defects.items }
-    requires other_defects { IsStrictlyIncreasing merged.old.other_defects.items }
-    ensures opened { OnOk result (IsOpened (drop (length ((joined_part merged.old).matching.unmatched ++ met_nodes (joined_part merged.old))) merged.new.parts.value.matching.unmatched) (joined_part merged.old) (part_of merged.new.parts.value)) }
-    ensures scope { OnOk result (IsScopeOf merged.new.parts.value.regions.scope (part_of merged.new.parts.value)) }
-    ensures rest { OnOk result (IsAtRest merged.old.parts.value.regions → IsAtRest merged.new.parts.value.regions) }
-    ensures listed { OnOk result (AreListed (problem_in (part_of merged.new.parts.value)).is_real merged.new.parts.value.job.0.now.plan merged.new.parts.value.seams merged.new.parts.value.links merged.new.parts.value.matching.matches) }
-    ensures defects { OnOk result (IsRisingUnion (merged.old.parts.value.defects.items ++ merged.old.other_defects.items) (shot_seam merged.old.parts.value.job.0.now merged.old.parts.value.slot merged.old.parts.value.node) merged.new.parts.value.defects.items) }
-{
-    let MergedParts {
-        parts,
-        link_names,
-        names,
-        others,
-        other_defects,
-        ..
-    } = merged;
-    let parts = &mut **parts;
-    add_rising(alloc, &mut parts.defects, other_defects)?;
-    take_matches(
-        alloc,
-        &mut parts.matching,
-        others.matches(),
-        link_names,
-        names,
-    )?;
-    open_seam(alloc, parts)
 }

@@ -8,7 +8,7 @@ ghost use Rattle.fb_half.specs.Values.{HasScope, IsScopeOf, part_of};
 
 use crate::half::Half;
 use crate::matching::Matching;
-use crate::merging::{MergedParts, complete, merged_parts};
+use crate::merging::{joined, open_seam};
 use crate::parts::Parts;
 use crate::shifting::NodeDefects;
 use crate::spare::{Spare, empty_parts, spare_for};
@@ -207,24 +207,23 @@ impl<'a> Work<'a> {
         requires children { children_of job.now.plan node ≡ Some (left.node, right.node) }
         ensures { IfOk result (λ w. IsMerged job.now node left.entry right.entry w) }
     {
-        let (work, spare) = Work::merge_with_spare(alloc, job, node, left, right)?;
-        drop(spare);
-        Ok(work)
+        Work::merge_with_spares(alloc, job, node, left, right, &mut Vec::new(alloc))
     }
 
-    /// The same as `merge`. The room that is left of the right part is returned too.
-    pub fn merge_with_spare(
+    /// The same as `merge`. If both parts have nodes, the room that is left of the right one is added to the spares.
+    pub fn merge_with_spares(
         alloc: Global,
         job: &'a Job<'a>,
         node: u32,
         left: Half<'a>,
         right: Half<'a>,
-    ) -> Result<(Work<'a>, Spare), NoMemory>
+        spares: &mut Vec<Spare>,
+    ) -> Result<Work<'a>, NoMemory>
         requires left { left.job ≡ job.now }
         requires right { right.job ≡ job.now }
         requires slot { left.slot ≡ right.slot }
         requires children { children_of job.now.plan node ≡ Some (left.node, right.node) }
-        ensures { IfOk result (λ r. IsMerged job.now node left.entry right.entry r.0) }
+        ensures { IfOk result (λ w. IsMerged job.now node left.entry right.entry w) }
     {
         job.keeps();
         left.keeps();
@@ -233,16 +232,8 @@ impl<'a> Work<'a> {
         let left = left.into_parts();
         let right = right.into_parts();
         scope.limits();
-        let mut merged = merged_parts(alloc, &scope, left, right)?;
-        complete(alloc, &mut merged)?;
-        let MergedParts {
-            parts,
-            others,
-            room,
-            emptied,
-            ..
-        } = merged;
-        let spare = Spare::beside(room, emptied, others);
-        Ok((Work { parts }, spare))
+        let mut parts = joined(alloc, &scope, left, right, spares)?;
+        open_seam(alloc, &mut *parts)?;
+        Ok(Work { parts })
     }
 }
