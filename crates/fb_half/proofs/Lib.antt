@@ -33,3 +33,4 @@ pub mod Tables
 pub mod Taken
 pub mod JoinedParts
 pub mod ExtendedParts
+pub mod SameNumbers

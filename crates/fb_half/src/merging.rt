@@ -100,6 +100,9 @@ pub(crate) fn joined<'a>(
     if right.regions.len() == 0 {
         return extended(alloc, scope, left, &right);
     }
+    if left.regions.len() == 0 {
+        return extended(alloc, scope, right, &left);
+    }
     joined_beside(alloc, scope, left, right, spares)
 }
 
