@@ -95,6 +95,9 @@ fn match_all<'a, L: Ledger>(
     ensures most { IfOk result (λ _. steps.new ≤ steps.old + length work.entry.matching.unmatched) }
     ensures least { IfOk result (λ _. length work.entry.matching.unmatched + 2 * steps.old ≤ 2 * steps.new) }
 {
+    if work.unmatched().is_empty() {
+        return Ok((work, scratch));
+    }
     let roots = roots_of(alloc, &work)?;
     match_all_from(alloc, work, &roots, scratch, steps)
 }

@@ -1,5 +1,5 @@
 -- The pieces of two solved parts of which one has no node: the other ones as they are.
-use Rattle.std.proofs.Common.{ℕ, ◌≡◌, true, false, List, [], ◌∷◌, ◌++◌, get_or, map, All, append-nil, refl, sym, ap, ◌∙◌, subst, inl, inr, None, if◌then◌else◌, arith}
+use Rattle.std.proofs.Common.{ℕ, ◌≡◌, true, false, List, [], ◌∷◌, ◌++◌, get_or, map, All, append-nil, refl, sym, ap, ◌∙◌, subst, inl, None, if◌then◌else◌, arith}
 use Rattle.std.proofs.lemmas.Bool.{false≢true, or_left, or_right}
 use Rattle.std.proofs.Math.Bool.{or_comm}
 use Rattle.std.proofs.lemmas.List.Elements.{All-nil}

@@ -371,6 +371,9 @@ fn seam_vertices(
     requires below { All (λ v. v < length plan.now.owners) vertices.now }
     ensures { IfOk result (λ own. own.items ≡ filter (is_owned_by plan.now node) vertices.now) }
 {
+    if vertices.is_empty() {
+        return Ok(Vec::new(alloc));
+    }
     let reached = within(vertices, plan.reach(node));
     let mut own = NumberList::from_vec(Vec::new(alloc));
     for v in reached {

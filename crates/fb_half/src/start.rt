@@ -37,6 +37,9 @@ fn own_vertices(
     requires below { All (λ v. v < scope.now.graph.now.vertices) vertices.now }
     ensures { IfOk result (λ own. own.items ≡ filter (scope_problem scope.now).is_real vertices.now) }
 {
+    if vertices.is_empty() {
+        return Ok(Vec::new(alloc));
+    }
     let reached = within(vertices, reach);
     let mut own = NumberList::from_vec(Vec::new(alloc));
     for v in reached {
