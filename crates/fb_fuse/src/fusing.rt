@@ -75,7 +75,7 @@ pub fn fuse_from<'a, L: Ledger>(
     ensures least { IfOk result (λ r. (length (freed_in left.entry node) + length (freed_in right.entry node)
         + length (seam_defects job.now left.entry.slot node)) + 2 * steps.old ≤ 2 * steps.new) }
 {
-    let work = Work::merge_with_spares(alloc, job, node, left, right, spares)?;
+    let work = Work::merge_with_spare(alloc, job, node, left, right, spares)?;
     let (work, scratch) = match_all(alloc, work, scratch, steps)?;
     Ok((work.close(), scratch))
 }

@@ -190,10 +190,10 @@ impl<'a> Work<'a> {
     /// The part of a fusion, made of its children's solved parts (Wu and Zhong 2023): all their cuts, and all their links
     /// but those of matches to vertices that the fusion owns. The nodes of these matches and the shifted defects that the
     /// fusion owns are unmatched: first the left part's nodes, then the right part's, then the defects in rising order. Takes
-    /// time for the right part, for the nodes of the left part that are or were matched to those vertices, for its defects
-    /// above the least one of the right part or of the fusion, for each defect of the shot and each vertex that shifts one
-    /// within the fusion's reach, and for the logarithm of all; if the left part has no room, with the first node also for
-    /// each 512 vertices of the graph.
+    /// time for the nodes that are or were matched to those vertices, for the defects of a part without nodes, if there is
+    /// one, and else for the right part, for the other part's defects above the least one that is added, for each defect of
+    /// the shot and each vertex that shifts one within the fusion's reach, and for the logarithm of all; if neither part has
+    /// nodes, with the first node also for each 512 vertices of the graph.
     pub fn merge(
         alloc: Global,
         job: &'a Job<'a>,
@@ -207,11 +207,11 @@ impl<'a> Work<'a> {
         requires children { children_of job.now.plan node ≡ Some (left.node, right.node) }
         ensures { IfOk result (λ w. IsMerged job.now node left.entry right.entry w) }
     {
-        Work::merge_with_spares(alloc, job, node, left, right, &mut Vec::new(alloc))
+        Work::merge_with_spare(alloc, job, node, left, right, &mut Vec::new(alloc))
     }
 
     /// The same as `merge`. If both parts have nodes, the room that is left of the right one is added to the spares.
-    pub fn merge_with_spares(
+    pub fn merge_with_spare(
         alloc: Global,
         job: &'a Job<'a>,
         node: u32,

@@ -5,7 +5,7 @@ use Rattle.fb_half.specs.Values.{part_of}
 use Rattle.fb_half.proofs.GivenHalves.{siblings_of}
 use Rattle.fb_half.proofs.JoinedParts.{joined_defects, joined_listed, joined_merged, joined_part, joined_scope}
 use Rattle.fb_half.proofs.SlotScopes.{scope_graph_is}
-use Rattle.fb_half.proofs.work.Work.merge_with_spares.Goals as goal
+use Rattle.fb_half.proofs.work.Work.merge_with_spare.Goals as goal
 
 pub joined-requires : goal.joined-requires
 joined-requires c =
