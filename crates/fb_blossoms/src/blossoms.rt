@@ -270,6 +270,7 @@ impl Blossoms {
         requires { is_in (defects_at self.now node) defect ≡ true }
         ensures { IfOk result (λ way. LeadsDown self.now node defect (reverse way.items)) }
     {
+        // A leaf that no blossom holds is the node itself.
         let Some(leaf) = leaf_of(&self.leaves, defect) else {
             return Ok(Vec::new(alloc));
         };
