@@ -138,8 +138,7 @@ impl Links {
     }
 
     /// The left table with the right one's links, each under a number that no link of the left one has, and the pairs of
-    /// their old and new numbers. Takes time proportional to
-    /// the right table's length and its walks' steps.
+    /// their old and new numbers. Takes time proportional to the right table's length and its walks' steps.
     pub fn merged(
         alloc: Global,
         left: Links,
