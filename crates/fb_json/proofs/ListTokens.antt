@@ -37,4 +37,3 @@ list_read data_of depth start xs n ts r deep enough over h =
     ap (converted of_json) (value-begin_array depth start deep)
     ∙ converted-array (items (value (depth - 1)) (length start) start)
     ∙ ap (parse_map array) (h ∙ ap (parse_map (items_by data_of xs)) (items_over (value (depth - 1)) n ts r enough over))
-

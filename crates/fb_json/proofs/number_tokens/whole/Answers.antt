@@ -12,5 +12,5 @@ returns-then-has_minus c =
 pub returns : goal.returns
 returns c =
     let read : number_of c.args.text.now ≡ Some (unsigned c.in_ok-number.number) =
-        natural_read c.args.text.now c.scan.result (sym c.if-has_minus.ensures.sign) c.scan.ensures.parts c.to_u64.result _ c.to_u64.ensures c.in_ok-number.was in
+    natural_read c.args.text.now c.scan.result (sym c.if-has_minus.ensures.sign) c.scan.ensures.parts c.to_u64.result _ c.to_u64.ensures c.in_ok-number.was in
     search (rules, read)
