@@ -74,8 +74,8 @@ fn numbers_in(alloc: Global, value: &Value) -> Result<Numbers, TextFault>
     })
 }
 
-/// The numbers that a text has, or the first rule that it breaks. The JSON value, several times as large as they, is
-/// gone when they are given.
+/// The numbers that a text has, or the first rule that it breaks. A text of the three members alone is read token by
+/// token; any other one by its JSON value, which is several times as large as the numbers and gone when they are given.
 pub fn read_numbers(alloc: Global, bytes: &[u8]) -> Result<Numbers, TextFault>
     ensures ok { IfOk result (λ n. numbers_of_text bytes.now ≡ Ok (n.vertex_num, n.edges.items, n.virtuals.items)) }
     ensures err { IfErr result (λ e. e ≢ TextFault.NoMemory → numbers_of_text bytes.now ≡ Err e) }

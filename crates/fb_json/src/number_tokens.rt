@@ -1,4 +1,6 @@
-//! The numbers among the tokens of a text, read without a value of the whole text.
+//! The numbers among the tokens of a text, read without a value of the whole text. These functions are for texts of a
+//! known form: `None` says nothing of a text, and its reader then goes by `read_value`. What a reader of tokens gives
+//! after `None` or an error is of no use.
 
 ghost use Rattle.std.specs.Prelude.{◌≡◌, ◌==◌, ◌<◌, ℕ, length, slice_index, true, None, Some, IfOk, IfSome, OnSome};
 ghost use Rattle.json.specs.Json.{after_end_array};
@@ -12,7 +14,7 @@ use fast_float::Numeral;
 use json::{Reader, Token};
 use std::alloc::{AllocError, Global};
 
-/// The whole number of at least 0 that comes next, if one does.
+/// The whole number of at least 0 that comes next, if one does. Takes no memory.
 pub fn next_natural(reader: &mut Reader<'_>) -> Option<u64>
     ensures value { IfSome result (λ n. (depth : ℕ)
         → Begins depth reader.old (number (unsigned n)) reader.new) }
@@ -25,7 +27,7 @@ pub fn next_natural(reader: &mut Reader<'_>) -> Option<u64>
     natural(text.as_bytes())
 }
 
-/// The whole number that comes next, if one does.
+/// The whole number that comes next, if one does. Takes no memory.
 pub fn next_whole(reader: &mut Reader<'_>) -> Option<i128>
     ensures value { IfSome result (λ n. (depth : ℕ)
         → Begins depth reader.old (number (of_integer n)) reader.new) }
