@@ -50,7 +50,8 @@ pub fn numbers_by_tokens(alloc: Global, bytes: &[u8]) -> Result<Option<Numbers>,
 /// The numbers, if all members were read.
 fn numbers_found(found: Found) -> Option<Numbers>
     ensures { IfSome result (λ n. (ms : Members)
-        → Holds ms found.vertex_num (option_map (λ v. v.items) found.edges) (option_map (λ v. v.items) found.virtuals)
+        → Holds ms found.vertex_num
+        (option_map (λ v. v.items) found.edges) (option_map (λ v. v.items) found.virtuals)
         → numbers_of (object ms) ≡ Ok (n.vertex_num, n.edges.items, n.virtuals.items)) }
 {
     let vertex_num = found.vertex_num?;
@@ -97,8 +98,10 @@ fn take_member(
 ) -> Result<bool, NoMemory>
     ensures taken { IfOk result (λ is_taken. is_taken ≡ true → (d : Data)
         × Begins 126 reader.old d reader.new × ((ms : Members)
-        → Holds ms found.old.vertex_num (option_map (λ v. v.items) found.old.edges) (option_map (λ v. v.items) found.old.virtuals)
-        → Holds (put name.now d ms) found.new.vertex_num (option_map (λ v. v.items) found.new.edges) (option_map (λ v. v.items) found.new.virtuals))) }
+        → Holds ms found.old.vertex_num
+        (option_map (λ v. v.items) found.old.edges) (option_map (λ v. v.items) found.old.virtuals)
+        → Holds (put name.now d ms) found.new.vertex_num
+        (option_map (λ v. v.items) found.new.edges) (option_map (λ v. v.items) found.new.virtuals))) }
     ensures shorter { IfOk result (λ is_taken. is_taken ≡ true
         → length reader.new < length reader.old) }
 {
