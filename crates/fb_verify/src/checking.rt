@@ -36,7 +36,8 @@ pub fn check_row(alloc: Global, graph: &Graph, shot: &Shot, row: &Row) -> Result
 }
 
 /// A check of the rows of one graph, which contracts see as that graph. Its components are found for the first odd
-/// row and kept, so that each further one takes time by the number of defects.
+/// row and kept, so that each further one takes time by the number of defects. A table of its edges, of 16 bytes each,
+/// is made for the second certificate and kept, so that loads are added up without a sort.
 #[derive(Drop)]
 pub struct Judge<'a> {
     graph: &'a Graph,
