@@ -9,7 +9,7 @@ use crate::seams::Seams;
 use fb_blossoms::Blossoms;
 use fb_graph::NoMemory;
 use fb_links::Links;
-use fb_plan::Job;
+use fb_plan::{Job, NodeScope};
 use fb_regions::{Regions, SpareRegions};
 use std::alloc::Global;
 use std::marker::Model;
@@ -18,10 +18,8 @@ use std::marker::Model;
 #[derive(Drop)]
 pub struct Spare {
     regions: SpareRegions,
-    links: Links,
-    blossoms: Blossoms,
+    tables: EmptyTables,
     matching: Matching,
-    seams: Seams,
 }
 
 impl Model for Spare {
@@ -31,7 +29,7 @@ impl Model for Spare {
 
     ghost view = { λ s. tt };
 
-    ghost invariant = { λ s. (s.links ≡ []) × (s.blossoms ≡ []) × (s.matching ≡ record { matches = []; unmatched = [] }) };
+    ghost invariant = { λ s. s.matching ≡ record { matches = []; unmatched = [] } };
 }
 
 impl Spare {
@@ -39,10 +37,12 @@ impl Spare {
     pub(crate) fn of(parts: Parts<'_>) -> Spare {
         Spare {
             regions: parts.regions.into_spare(),
-            links: parts.links.into_empty(),
-            blossoms: parts.blossoms.into_empty(),
+            tables: EmptyTables {
+                links: parts.links.into_empty(),
+                blossoms: parts.blossoms.into_empty(),
+                seams: parts.seams.into_empty(),
+            },
             matching: parts.matching.into_empty(),
-            seams: parts.seams.into_empty(),
         }
     }
 
@@ -51,10 +51,8 @@ impl Spare {
     pub(crate) fn beside(regions: SpareRegions, tables: EmptyTables, matching: Matching) -> Spare {
         Spare {
             regions,
-            links: tables.links,
-            blossoms: tables.blossoms,
+            tables,
             matching: matching.into_empty(),
-            seams: tables.seams,
         }
     }
 }
@@ -78,6 +76,13 @@ impl Model for EmptyTables {
 }
 
 impl EmptyTables {
+    /// New tables. Takes no memory.
+    fn new(alloc: Global) -> Result<EmptyTables, NoMemory> {
+        let links = Links::new(alloc)?;
+        let blossoms = Blossoms::new(alloc)?;
+        Ok(EmptyTables::on(alloc, links, blossoms))
+    }
+
     /// These tables, and a new index. Takes no memory.
     pub(crate) fn on(alloc: Global, links: Links, blossoms: Blossoms) -> EmptyTables
         requires links { links ≡ [] }
@@ -115,62 +120,47 @@ pub(crate) fn empty_parts<'a>(
     ensures scope { IfOk result (λ p. IsScopeOf p.value.regions.scope (part_of p.value)) }
     ensures rest { IfOk result (λ p. IsAtRest p.value.regions) }
 {
+    let scope = job.scope(slot, node);
     match spare {
-        Some(spare) => parts_on(alloc, spare, job, slot, node),
-        None => new_parts(alloc, job, slot, node),
+        Some(spare) => {
+            let regions = Regions::on(alloc, spare.regions, &scope)?;
+            boxed(alloc, job, slot, regions, spare.tables, spare.matching)
+        }
+        None => {
+            let regions = Regions::new(alloc, &scope)?;
+            let tables = EmptyTables::new(alloc)?;
+            boxed(alloc, job, slot, regions, tables, Matching::new(alloc))
+        }
     }
 }
 
-/// The pieces of a part without nodes, in new room.
-fn new_parts<'a>(
+/// The pieces of a part of the scope's node, of an empty dual state, empty tables and an empty matching.
+fn boxed<'a>(
     alloc: Global,
     job: &'a Job<'a>,
     slot: u32,
-    node: u32,
+    regions: Regions<NodeScope<'a>>,
+    tables: EmptyTables,
+    matching: Matching,
 ) -> Result<Box<Parts<'a>, Global>, NoMemory>
-    requires slot { slot < length job.now.shots }
-    ensures value { IfOk result (λ p. part_of p.value ≡ empty_part job.now slot node) }
-    ensures scope { IfOk result (λ p. IsScopeOf p.value.regions.scope (part_of p.value)) }
-    ensures rest { IfOk result (λ p. IsAtRest p.value.regions) }
+    requires matching { matching ≡ record { matches = []; unmatched = [] } }
+    ensures value { IfOk result (λ p. part_of p.value ≡ record (empty_part job.entry.now slot regions.entry.scope.node) { nodes = regions.entry.nodes }) }
+    ensures regions { IfOk result (λ p. p.value.regions ≡ regions.entry) }
 {
+    let node = regions.scope().node;
+    let EmptyTables {
+        links,
+        blossoms,
+        seams,
+    } = tables;
     let parts = Box::new(
         alloc,
         Parts {
-            regions: Regions::new(alloc, &job.scope(slot, node))?,
-            links: Links::new(alloc)?,
-            blossoms: Blossoms::new(alloc)?,
-            matching: Matching::new(alloc),
-            seams: Seams::new(alloc),
-            defects: Vec::new(alloc),
-            job: PartJob(job),
-            slot,
-            node,
-        },
-    )?;
-    Ok(parts)
-}
-
-/// The pieces of a part without nodes, in the spare's room.
-fn parts_on<'a>(
-    alloc: Global,
-    spare: Spare,
-    job: &'a Job<'a>,
-    slot: u32,
-    node: u32,
-) -> Result<Box<Parts<'a>, Global>, NoMemory>
-    requires slot { slot < length job.now.shots }
-    ensures value { IfOk result (λ p. part_of p.value ≡ empty_part job.now slot node) }
-    ensures scope { IfOk result (λ p. IsScopeOf p.value.regions.scope (part_of p.value)) }
-    ensures rest { IfOk result (λ p. IsAtRest p.value.regions) }
-{
-    let parts = Box::new(
-        alloc,
-        Parts {
-            regions: Regions::on(alloc, spare.regions, &job.scope(slot, node))?,
-            links: spare.links,
-            blossoms: spare.blossoms,
-            matching: spare.matching,
-            seams: spare.seams,
+            regions,
+            links,
+            blossoms,
+            matching,
+            seams,
             defects: Vec::new(alloc),
             job: PartJob(job),
             slot,
