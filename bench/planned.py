@@ -67,8 +67,9 @@ MORE_DEFECTS = 50
 
 def measure_plans(name, graph, distance, rounds, make, shots, is_chain, folder):
     """What a shot takes by plans of more and more units, and what each further item of a plan costs: in time, and in
-    instructions."""
+    instructions. All plans have the same shots, and what the first one takes, which sets everything up, isn't counted."""
     virtuals, draw = set(graph.virtuals), random.Random(1)
+    first, *more = [make(draw, graph, virtuals) for _ in range(shots + 1)]
     costs, counts = [], []
     for units in MANY_UNITS:
         if 2 * units - 1 > rounds:
@@ -78,9 +79,9 @@ def measure_plans(name, graph, distance, rounds, make, shots, is_chain, folder):
             plan = plan_by_rounds(distance * (distance + 1), rounds, units, is_chain)
             (folder / "plan.json").write_text(json.dumps(plan))
             words += ["--plan", folder / "plan.json"]
-        (folder / "shots").write_bytes(b"")
+        write_packed(graph, virtuals, [first], folder / "shots")
         bare, bare_count = least_run(words, folder), instructions(words)
-        write_packed(graph, virtuals, (make(draw, graph, virtuals) for _ in range(shots)), folder / "shots")
+        write_packed(graph, virtuals, [first, *more], folder / "shots")
         best, count = least_run(words, folder), instructions(words)
         costs.append(max(best.processor_seconds - bare.processor_seconds, LEAST_SECONDS) / shots)
         each = 1e6 * max(costs[-1] - costs[0], 0) / (2 * units - 1)
